@@ -5,7 +5,7 @@ use Rattle.std.specs.Simd.Lanes.{zip2}
 use Rattle.list_facts.specs.Bits.{zeros}
 use Rattle.mct_circuit.specs.Gates.{GateView, CircuitView, AreGatesOn, line_map}
 use Rattle.circuit_plans.specs.declared.choice.How.{How}
-use Rattle.circuit_plans.specs.declared.choice.How.TheVariants.{Auto, Eager, Lean, Pebble}
+use Rattle.circuit_plans.specs.declared.choice.How.TheVariants.{Auto, Compact, Eager, Lean, Pebble}
 use Rattle.circuit_plans.specs.declared.roles.Roles.{Roles}
 use Rattle.circuit_plans.specs.declared.roles.Role.{Role}
 use Rattle.circuit_plans.specs.declared.roles.Role.TheVariants.{Input, Output, Work, Borrowed}
@@ -75,6 +75,7 @@ MayHold Zero held = held ≡ zeros (length held)
 -- what they may hold under each plan
 abbrev pub start_of : How → Start
 start_of Auto = Any
+start_of Compact = Zero
 start_of Eager = Any
 start_of Lean = Any
 start_of Pebble = Any

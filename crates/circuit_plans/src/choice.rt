@@ -5,6 +5,10 @@
 pub enum How {
     /// The eager plan, and then pebbling.
     Auto,
+    /// Over the lean graph, the best of the plan of `Lean` and of those that planners find: the one
+    /// of fewest Toffoli gates, of as many that of the least product of lines and gates, then that
+    /// of the fewest lines. Its output lines have to start at 0.
+    Compact,
     /// The eager plan alone.
     Eager,
     /// Over the lean graph, the better of the ready plan and pebbling: the one of fewer Toffoli
