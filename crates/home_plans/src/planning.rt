@@ -1,5 +1,6 @@
 // The best of the plans with homes.
 ghost use Rattle.std.specs.Prelude.{IfOk, IfSome};
+ghost use Rattle.circuit_plans.specs.declared.roles.Start.TheVariants.{Zero};
 ghost use Rattle.held_nodes.specs.Plans.{IsNarrowPlan};
 
 use crate::draft::{Draft, Drafted};
@@ -26,7 +27,7 @@ const DEPTHS: u32 = 24;
 /// The best plan with homes that was found, by its Toffoli gates, then by lines times gates, then by
 /// lines; none where none of those that are tried fits the budget.
 pub fn plan(alloc: Global, graph: &SumGraph, budget: &Budget) -> Result<Option<Planned>, Memory>
-    ensures { IfOk result (λ found. IfSome found (IsNarrowPlan graph.now budget.now)) }
+    ensures { IfOk result (λ found. IfSome found (IsNarrowPlan Zero graph.now budget.now)) }
 {
     let homes = Homes::find(alloc, graph)?;
     let table = Table::of(alloc, graph, &homes)?;
