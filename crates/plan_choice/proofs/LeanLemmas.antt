@@ -12,6 +12,7 @@ use Rattle.bit_sums.specs.Sums.{ProductView, SumView, weight_of}
 use Rattle.circuit_plans.specs.declared.choice.How.TheVariants.{Lean}
 use Rattle.circuit_plans.specs.declared.plan.PlanFault.{PlanFault}
 use Rattle.circuit_plans.specs.declared.plan.PlanFault.TheVariants.{Lines, Gates, Memory}
+use Rattle.circuit_plans.specs.declared.roles.Start.{Start}
 use Rattle.circuit_plans.specs.declared.roles.Start.TheVariants.{Any}
 use Rattle.circuit_plans.specs.Plans.{BudgetView, LaidView, PlannedView}
 use Rattle.claim_check.specs.Budgets.{Measures}
@@ -33,8 +34,8 @@ use Rattle.plan_choice.specs.inside.Tried.{IsLaidAsIs, IsLaidLean, IsLaidNarrow,
 use Rattle.plan_choice.proofs.SplitLemmas.{same_outputs}
 
 -- a narrow plan of the lean graph
-module _ {s : SettledView} {l : SumGraphView} {b : BudgetView} {p : PlannedView} (lean : IsLeanOf s l) (is : IsNarrowPlan l b p) where
-  pub laid_lean : (laid : LaidView) → IsLaidAsIs p b laid → IsLaidNarrow s b laid
+module _ {start : Start} {s : SettledView} {l : SumGraphView} {b : BudgetView} {p : PlannedView} (lean : IsLeanOf s l) (is : IsNarrowPlan start l b p) where
+  pub laid_lean : (laid : LaidView) → IsLaidAsIs p b laid → IsLaidNarrow start s b laid
   laid_lean laid kept =
       let of = kept.laid_of in
       record {
@@ -44,8 +45,8 @@ module _ {s : SettledView} {l : SumGraphView} {b : BudgetView} {p : PlannedView}
           borrowed = of.borrowed;
           lines = of.lines;
           gates = of.gates;
-          clean = of.clean Any (settled_outputs s)
-              (same_outputs Any (roles_of_plan p) p.circuit.gates (sum_outputs l) (settled_outputs s) lean.values is.clean);
+          clean = of.clean start (settled_outputs s)
+              (same_outputs start (roles_of_plan p) p.circuit.gates (sum_outputs l) (settled_outputs s) lean.values is.clean);
         };
         narrow = subst AreNarrow (sym kept.same) is.narrow;
       }
@@ -56,7 +57,7 @@ module _ {s : SettledView} {l : SumGraphView} {b : BudgetView} {p : PlannedView}
       let same : toffoli laid ≡ (counts_of p.circuit.gates).ccx = ap (λ (gs : List GateView). (counts_of gs).ccx) kept.same in
       omega (arith, same, few.plain covers, lean.products)
 
-pub lean_ports : {l : SumGraphView} {b : BudgetView} {p : PlannedView} → IsNarrowPlan l b p → HasPortLines (first_work l) b
+pub lean_ports : {start : Start} {l : SumGraphView} {b : BudgetView} {p : PlannedView} → IsNarrowPlan start l b p → HasPortLines (first_work l) b
 lean_ports is = omega (arith, is.ports.lines, is.within.lines)
 
 -- ---- the search
@@ -67,7 +68,7 @@ pub record IsLeanSearch (s : SettledView) (l : SumGraphView) (b : BudgetView) (b
   pub ok : IfOk tried (IsLaidLean s l b)
   pub refused : IfErr tried (IsLeanFault l block b)
 
-lean_ok : (s : SettledView) (l : SumGraphView) (b : BudgetView) (tried : Result LaidView PlanFault) → IfOk tried (IsLaidNarrow s b)
+lean_ok : (s : SettledView) (l : SumGraphView) (b : BudgetView) (tried : Result LaidView PlanFault) → IfOk tried (IsLaidNarrow Any s b)
     → IfOk tried (λ laid. CoveringFits l b → toffoli laid ≤ 2 * ands_in s.nodes) → IfOk tried (IsLaidLean s l b)
 lean_ok s l b (Ok laid) made few = record { plan = made; few = few }
 lean_ok s l b (Err e) made few = tt
@@ -100,7 +101,7 @@ none_fits l block b (Err Gates) e h = h.0
 none_fits l block b (Err Memory) e h = absurd (cc)
 
 pub lean_begun : (s : SettledView) (l : SumGraphView) (b : BudgetView) (block : ℕ) (tried : Result LaidView PlanFault) → 1 ≤ block → length l.nodes ≤ block
-    → IfOk tried (IsLaidNarrow s b) → IfOk tried (λ laid. length l.nodes ≤ block → toffoli laid ≤ 2 * ands_in s.nodes)
+    → IfOk tried (IsLaidNarrow Any s b) → IfOk tried (λ laid. length l.nodes ≤ block → toffoli laid ≤ 2 * ands_in s.nodes)
     → IfErr tried (sums.IsPebblingFault l block b) → IsLeanSearch s l b block tried
 lean_begun s l b block tried some covers ok few refused = record {
   some = some;
@@ -110,7 +111,7 @@ lean_begun s l b block tried some covers ok few refused = record {
 
 pub lean_halved : (s : SettledView) (l : SumGraphView) (b : BudgetView) (block half : ℕ) (tried next : Result LaidView PlanFault)
     → IsLeanSearch s l b block tried → is_refusal tried ≡ true → 1 ≤ half
-    → IfOk next (IsLaidNarrow s b) → IfOk next (λ laid. length l.nodes ≤ half → toffoli laid ≤ 2 * ands_in s.nodes)
+    → IfOk next (IsLaidNarrow Any s b) → IfOk next (λ laid. length l.nodes ≤ half → toffoli laid ≤ 2 * ands_in s.nodes)
     → IfErr next (sums.IsPebblingFault l half b) → IsLeanSearch s l b half next
 lean_halved s l b block half tried next h e some ok few refused =
     let none : ¬ CoveringFits l b = none_fits l block b tried e h.refused in
@@ -248,14 +249,14 @@ fewest p q no_worse = elim no_worse as (λ _. toffoli p ≤ toffoli q) [ inl les
 -- what is known of the two plans of a lean graph
 pub record AreTried (s : SettledView) (l : SumGraphView) (b : BudgetView) (ready pebbling : Result LaidView PlanFault) : Type 0 where
   pub lean : IsLeanOf s l
-  pub ready_fits : IfOk ready (IsLaidNarrow s b)
+  pub ready_fits : IfOk ready (IsLaidNarrow Any s b)
   pub ready_refused : IfErr ready (IsReadyFault l b)
   pub fits : IfOk pebbling (IsLaidLean s l b)
   pub refused : IfErr pebbling (IsLeanFault l 1 b)
 
 -- what is laid
 record IsTaken (s : SettledView) (l : SumGraphView) (b : BudgetView) (laid : LaidView) : Type 0 where
-  plan : IsLaidNarrow s b laid
+  plan : IsLaidNarrow Any s b laid
   better : IsBetterOfTwo l b laid
   few : CoveringFits l b → toffoli laid ≤ 2 * ands_in s.nodes
 

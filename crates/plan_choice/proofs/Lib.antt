@@ -1,3 +1,4 @@
+pub mod CompactLemmas
 pub mod LeanLemmas
 pub mod SearchLemmas
 pub mod SplitLemmas

@@ -15,7 +15,7 @@ use Rattle.circuit_plans.specs.declared.plan.PlanFault.TheVariants.{Lines, Gates
 use Rattle.circuit_plans.specs.Plans.{BudgetView, LaidView}
 use Rattle.eager_cleanup.specs.Eager.{IsEagerFault, ports_of}
 use Rattle.revs_tape.specs.Levels.{IsLevels}
-use Rattle.circuit_plans.specs.declared.choice.How.TheVariants.{Auto, Eager, Lean, Pebble}
+use Rattle.circuit_plans.specs.declared.choice.How.TheVariants.{Auto, Compact, Eager, Lean, Pebble}
 use Rattle.circuit_plans.specs.declared.choice.How.{How}
 use Rattle.held_nodes.specs.Plans.{wanted_lines}
 use Rattle.circuit_plans.specs.declared.roles.Start.TheVariants.{Any}
@@ -241,6 +241,10 @@ few_ports Auto s b short = record {
 few_ports Eager s b short = record {
   few = λ m within. omega (arith, short, within.inputs, within.outputs);
   no_row = λ m within row. no_eager_row s b m short within row;
+}
+few_ports Compact s b short = record {
+  few = λ m within. omega (arith, short, within.inputs, within.outputs);
+  no_row = λ m within row. (let few = row.few_lines in omega (arith, few, short, within.inputs, within.outputs));
 }
 few_ports Lean s b short = record {
   few = λ m within. omega (arith, short, within.inputs, within.outputs);

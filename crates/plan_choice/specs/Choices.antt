@@ -1,5 +1,5 @@
 -- Which budgets are enough for a choice of plans, and what is laid.
-use Rattle.std.specs.Prelude.{◌≡◌, ℕ, suc, ◌*◌, ◌^◌, ◌<◌, ◌≤◌, ◌⊎◌, length}
+use Rattle.std.specs.Prelude.{◌≡◌, ◌≢◌, Result, Err, IfErr, IfOk, ℕ, suc, ◌*◌, ◌^◌, ◌<◌, ◌≤◌, ◌⊎◌, length}
 use Rattle.revs_tape.specs.Levels.{IsLevels}
 use Rattle.claim_check.specs.Budgets.{Measures, plain_lines, plain_gates, fine_lines, fine_gates}
 use Rattle.claim_check.specs.Budgets.{block_lines, block_gates, eager_lines, eager_gates}
@@ -16,10 +16,10 @@ use Rattle.mct_circuit.specs.Gates.{AreNarrow}
 use Rattle.eager_cleanup.specs.Eager.{AreWithinEager, ports_of}
 use Rattle.bennett_pebbling.specs.Blocks.{AreWithinBlock}
 use Rattle.plan_choice.specs.Blocks.{extent_of}
-use Rattle.plan_choice.specs.Lean.{IsBetterOfTwo, toffoli}
+use Rattle.plan_choice.specs.Lean.{IsAsCompact, IsBetterOfTwo, toffoli}
 use Rattle.sum_graph.specs.Graphs.{IsLeanOf, SumGraphView}
 use Rattle.circuit_plans.specs.declared.choice.How.{How}
-use Rattle.circuit_plans.specs.declared.choice.How.TheVariants.{Auto, Eager, Lean, Pebble}
+use Rattle.circuit_plans.specs.declared.choice.How.TheVariants.{Auto, Compact, Eager, Lean, Pebble}
 
 -- ---- rows of the budget numbers
 
@@ -57,6 +57,7 @@ LeanFits b m = Fit b (lean_lines m b.borrow) (lean_gates m)
 -- one of the rows that a choice of plans allows fits
 abbrev pub SomeRowFits : How → BudgetView → Measures → Type 0
 SomeRowFits Auto b m = EagerFits b m ⊎ PebblingFits b m
+SomeRowFits Compact b m = LeanFits b m
 SomeRowFits Eager b m = EagerFits b m
 SomeRowFits Lean b m = LeanFits b m
 SomeRowFits Pebble b m = PebblingFits b m
@@ -79,17 +80,20 @@ pub record IsBelowFineLines (b : BudgetView) (m : Measures) : Type 0 where
 pub record IsBelowFineGates (b : BudgetView) (m : Measures) : Type 0 where
   pub below : (levels : ℕ) → IsLevels 1 m.steps levels → b.gates < fine_gates m levels
 
--- the budget has fewer lines than the eager number, than a line for each step under `Lean`, or than the fine number
--- where pebbling of the plain graph is tried too
+-- the budget has fewer lines than the eager number, than a line for each step under `Lean` and `Compact`, or than the
+-- fine number where pebbling of the plain graph is tried too
 abbrev pub HasFewLines : How → BudgetView → Measures → Type 0
 HasFewLines Auto b m = IsBelowFineLines b m
+HasFewLines Compact b m = b.lines < lean_lines m b.borrow
 HasFewLines Eager b m = b.lines < eager_lines m b.borrow
 HasFewLines Lean b m = b.lines < lean_lines m b.borrow
 HasFewLines Pebble b m = IsBelowFineLines b m
 
--- the same of gates; under `Lean` pebbling by smaller blocks saves lines for gates, and the row tells all that is known
+-- the same of gates; under those two pebbling by smaller blocks saves lines for gates, and the row tells all that is
+-- known
 abbrev pub HasFewGates : How → BudgetView → Measures → Type 0
 HasFewGates Auto b m = IsBelowFineGates b m
+HasFewGates Compact b m = ¬ LeanFits b m
 HasFewGates Eager b m = b.gates < eager_gates m
 HasFewGates Lean b m = ¬ LeanFits b m
 HasFewGates Pebble b m = IsBelowFineGates b m
@@ -146,6 +150,17 @@ pub record IsLean (s : SettledView) (b : BudgetView) (laid : LaidView) : Type 0 
   pub narrow : AreNarrow laid.circuit.gates
   pub few : (m : Measures) → IsWithin s m → LeanFits b m → toffoli laid ≤ 2 * ands_in s.nodes
 
+-- The best of the lean plan and of what planners found, of narrow gates: it is no worse than the lean plan where that
+-- fits, and where the lean row fits, it has at most two Toffoli gates for each AND of the settled graph.
+pub record IsCompact (s : SettledView) (b : BudgetView) (laid : LaidView) : Type 0 where
+  pub lean : Result LaidView PlanFault
+  pub is_lean : IfOk lean (IsLean s b)
+  pub refused : IfErr lean (IsChoiceFault Lean s b)
+  pub enough : lean ≢ Err Memory
+  pub best : IfOk lean (IsAsCompact laid)
+  pub narrow : AreNarrow laid.circuit.gates
+  pub few : (m : Measures) → IsWithin s m → LeanFits b m → toffoli laid ≤ 2 * ands_in s.nodes
+
 -- the eager numbers do not both fit
 pub record NoEagerFits (s : SettledView) (b : BudgetView) : Type 0 where
   pub none : (m : Measures) → IsWithin s m → ¬ EagerFits b m
@@ -153,6 +168,7 @@ pub record NoEagerFits (s : SettledView) (b : BudgetView) : Type 0 where
 -- a plan that the choice allows; pebbling comes only where the eager numbers do not fit, or where it alone is allowed
 abbrev pub IsChosen : How → SettledView → BudgetView → LaidView → Type 0
 IsChosen Auto s b laid = IsEager s b laid ⊎ (NoEagerFits s b × IsPebbling s b laid)
+IsChosen Compact s b laid = IsCompact s b laid
 IsChosen Eager s b laid = IsEager s b laid
 IsChosen Lean s b laid = IsLean s b laid
 IsChosen Pebble s b laid = IsPebbling s b laid

@@ -1,5 +1,5 @@
 -- The two plans of a lean graph, and which of them is laid.
-use Rattle.std.specs.Prelude.{◌≡◌, ◌≢◌, ◌⊎◌, ℕ, ◌+◌, ◌<◌, ◌≤◌, Result, Ok, Err, IfErr, IfOk, length}
+use Rattle.std.specs.Prelude.{◌≡◌, ◌≢◌, ◌⊎◌, ℕ, ◌+◌, ◌*◌, ◌<◌, ◌≤◌, Result, Ok, Err, IfErr, IfOk, length}
 use Rattle.bennett_pebbling.specs.Pebbling.{IsPebblingFault, plain_weight}
 use Rattle.circuit_plans.specs.declared.plan.PlanFault.{PlanFault}
 use Rattle.circuit_plans.specs.declared.plan.PlanFault.TheVariants.{Lines, Gates, Memory}
@@ -49,3 +49,17 @@ pub record IsBetterOfTwo (l : SumGraphView) (b : BudgetView) (laid : LaidView) :
   pub enough : (ready ≢ Err Memory) × (pebbling ≢ Err Memory)
   pub one : (ready ≡ Ok laid) ⊎ (pebbling ≡ Ok laid)
   pub best : IfOk ready (IsNoWorse laid) × IfOk pebbling (IsNoWorse laid)
+
+-- ---- the best of several plans
+
+-- lines times gates
+abbrev pub area : LaidView → ℕ
+area laid = laid.circuit.lines * length laid.circuit.gates
+
+-- a smaller product of lines and gates; or as large a one and no more lines
+abbrev pub HasNoMoreLines : LaidView → LaidView → Type 0
+HasNoMoreLines p q = (area p < area q) ⊎ ((area p ≡ area q) × (p.circuit.lines ≤ q.circuit.lines))
+
+-- fewer Toffoli gates; or as many, and a smaller product of lines and gates; or as many of both and no more lines
+abbrev pub IsAsCompact : LaidView → LaidView → Type 0
+IsAsCompact p q = (toffoli p < toffoli q) ⊎ ((toffoli p ≡ toffoli q) × HasNoMoreLines p q)

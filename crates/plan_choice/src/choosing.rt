@@ -7,6 +7,7 @@ ghost use Rattle.circuit_plans.specs.declared.choice.How.TheVariants.{Auto};
 ghost use Rattle.circuit_plans.specs.declared.roles.Start.TheVariants.{Any};
 ghost use Rattle.circuit_plans.specs.Plans.{start_of};
 
+use crate::compact::lay_compact;
 use crate::laying::{Tried, is_refused, lay_eager};
 use crate::lean::lay_lean;
 use crate::search::lay_pebbling;
@@ -20,16 +21,17 @@ use sum_graph::SumGraph;
 /// zeros on the work lines and anything on the borrowed lines to the same. An eager plan is within
 /// the eager numbers, a pebbling within those of its block; it is that of the largest block that
 /// fits, and `Auto` takes one only where the eager numbers do not fit. `Lean` takes the better of
-/// two plans of the lean graph; where the lean row fits, it has at most two Toffoli gates for each
-/// AND of the graph.
+/// two plans of the lean graph, and `Compact`, under which the output lines start at 0, the best of
+/// that one and of what planners find there; where the lean row fits, these have at most two
+/// Toffoli gates for each AND of the graph.
 ///
 /// # Errors
 ///
 /// The refusal of the last plan that was tried; want of memory ends the search. Never where both
 /// numbers of a row that `how` allows fit. `Lines` and `Gates` come only where the budget has fewer
 /// of them than the fine number of the graph, for `Eager` than its eager number, and `Lines` for
-/// `Lean` than a line for each node. `need` is the number of inputs, outputs and borrowed lines
-/// where that passes the budget, and one line more than the budget otherwise.
+/// `Lean` and `Compact` than a line for each node. `need` is the number of inputs, outputs and
+/// borrowed lines where that passes the budget, and one line more than the budget otherwise.
 pub fn choose(alloc: Global, graph: &Settled, budget: &Budget, how: How) -> Result<Laid, PlanFault>
     ensures ok { IfOk result (IsLaidFor (start_of how) graph.now budget.now) }
     ensures chosen { IfOk result (IsChosen how graph.now budget.now) }
@@ -51,6 +53,7 @@ fn chosen(alloc: Global, graph: &Settled, budget: &Budget, how: How) -> Tried
 {
     match how {
         How::Auto => eager_or_pebbling(alloc, graph, &SumGraph::plain(alloc, graph)?, budget),
+        How::Compact => lay_compact(alloc, graph, &SumGraph::lean(alloc, graph)?, budget),
         How::Eager => lay_eager(alloc, graph, &SumGraph::plain(alloc, graph)?, budget),
         How::Lean => lay_lean(alloc, graph, &SumGraph::lean(alloc, graph)?, budget),
         How::Pebble => lay_pebbling(alloc, graph, &SumGraph::plain(alloc, graph)?, budget),

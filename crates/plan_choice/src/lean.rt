@@ -20,7 +20,7 @@ use sum_graph::SumGraph;
 // The ready plan of a lean graph, laid.
 pub fn lay_ready(alloc: Global, graph: &Settled, lean: &SumGraph, budget: &Budget) -> Tried
     requires lean { IsLeanOf graph.now lean.now }
-    ensures ok { IfOk result (IsLaidNarrow graph.now budget.now) }
+    ensures ok { IfOk result (IsLaidNarrow Any graph.now budget.now) }
     ensures refused { IfErr result (IsReadyFault lean.now budget.now) }
 {
     let planned = ready_cleanup::plan(alloc, lean, budget)?;
@@ -37,7 +37,7 @@ pub fn lay_lean_blocks(
 ) -> Tried
     requires some { 1 ≤ block }
     requires lean { IsLeanOf graph.now lean.now }
-    ensures ok { IfOk result (IsLaidNarrow graph.now budget.now) }
+    ensures ok { IfOk result (IsLaidNarrow Any graph.now budget.now) }
     ensures products { IfOk result (λ laid. length lean.now.nodes ≤ block
         → toffoli laid ≤ 2 * ands_in graph.now.nodes) }
     ensures refused { IfErr result (IsPebblingFault lean.now block budget.now) }

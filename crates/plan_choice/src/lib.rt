@@ -2,6 +2,7 @@
 #![tactic(auto)]
 
 mod choosing;
+mod compact;
 mod laying;
 mod lean;
 mod search;

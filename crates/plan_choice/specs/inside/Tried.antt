@@ -1,5 +1,5 @@
 -- What a plan that was tried says: of its split, of one block, and of all blocks down to one.
-use Rattle.std.specs.Prelude.{◌≡◌, ℕ, ◌+◌, ◌*◌, ◌<◌, ◌≤◌, ◌==◌, nat_lt, if◌then◌else◌, Bool, true, false, ⊤, Result, Ok, Err, List, length, sum_by}
+use Rattle.std.specs.Prelude.{◌≡◌, ◌≢◌, IfErr, IfOk, ℕ, ◌+◌, ◌*◌, ◌<◌, ◌≤◌, ◌==◌, nat_lt, if◌then◌else◌, Bool, true, false, ⊤, Result, Ok, Err, List, length, sum_by}
 use Rattle.bennett_pebbling.specs.Blocks.{AreWithinBlock}
 use Rattle.plan_choice.specs.Blocks.{IsPebblingFault, extent_of}
 use Rattle.claim_check.specs.Settled.{SettledView}
@@ -7,14 +7,17 @@ use Rattle.circuit_plans.specs.declared.plan.PlanFault.{PlanFault}
 use Rattle.circuit_plans.specs.declared.plan.PlanFault.TheVariants.{Lines, Gates, Memory}
 use Rattle.gate_split.specs.Costs.{most_gates}
 use Rattle.circuit_plans.specs.declared.roles.Start.{Start}
-use Rattle.circuit_plans.specs.declared.roles.Start.TheVariants.{Any}
+use Rattle.circuit_plans.specs.declared.roles.Start.TheVariants.{Any, Zero}
 use Rattle.circuit_plans.specs.Plans.{AddsOutputs, BudgetView, PlannedView, LaidView, roles_of}
 use Rattle.gate_split.specs.Split.{IsSplitList}
 use Rattle.held_nodes.specs.Moves.{roles_of_plan}
 use Rattle.mct_circuit.specs.Gates.{AreNarrow, GateView}
-use Rattle.plan_choice.specs.Choices.{IsLaidFor, NoLargerFits}
+use Rattle.eager_cleanup.specs.Eager.{ports_of}
+use Rattle.held_nodes.specs.Plans.{HasPortLines}
+use Rattle.circuit_plans.specs.declared.choice.How.TheVariants.{Lean}
+use Rattle.plan_choice.specs.Choices.{IsChoiceFault, IsLaidFor, IsLean, NoLargerFits}
 use Rattle.dependency_graph.specs.Graphs.{ands_in}
-use Rattle.plan_choice.specs.Lean.{CoveringFits, toffoli}
+use Rattle.plan_choice.specs.Lean.{CoveringFits, IsAsCompact, area, toffoli}
 use Rattle.sum_graph.specs.Graphs.{SumGraphView}
 
 -- whether there is no plan though memory was not wanting
@@ -68,14 +71,15 @@ IsSearchFault s block b Memory = IsPebblingFault s block b Memory
 -- ---- plans of a lean graph
 
 -- what is laid of a lean graph is narrow
-pub record IsLaidNarrow (s : SettledView) (b : BudgetView) (laid : LaidView) : Type 0 where
-  pub for_graph : IsLaidFor Any s b laid
+pub record IsLaidNarrow (start : Start) (s : SettledView) (b : BudgetView) (laid : LaidView)
+    : Type 0 where
+  pub for_graph : IsLaidFor start s b laid
   pub narrow : AreNarrow laid.circuit.gates
 
 -- Where one block of all nodes fits, it has at most two flips under two lines for each AND.
 pub record IsLaidLean (s : SettledView) (l : SumGraphView) (b : BudgetView) (laid : LaidView)
     : Type 0 where
-  pub plan : IsLaidNarrow s b laid
+  pub plan : IsLaidNarrow Any s b laid
   pub few : CoveringFits l b → toffoli laid ≤ 2 * ands_in s.nodes
 
 -- ---- the better of two plans
@@ -103,3 +107,44 @@ best_of (Ok ready) pebbling = better_of ready pebbling
 best_of (Err (Lines need)) pebbling = pebbling
 best_of (Err Gates) pebbling = pebbling
 best_of (Err Memory) pebbling = Err Memory
+
+-- ---- the best of several plans
+
+-- fewer flips under two lines; of as many, the smaller product of lines and gates; of as many, fewer lines
+abbrev pub is_smaller : LaidView → LaidView → Bool
+is_smaller p q =
+    if toffoli p == toffoli q
+    then (if area p == area q
+    then nat_lt p.circuit.lines q.circuit.lines
+    else nat_lt (area p) (area q))
+    else nat_lt (toffoli p) (toffoli q)
+
+-- the found plan where it is smaller than what was tried, or that was refused; want of memory passes on
+abbrev pub smaller_of : Result LaidView PlanFault → LaidView → Result LaidView PlanFault
+smaller_of (Ok laid) found = Ok (if is_smaller found laid then found else laid)
+smaller_of (Err (Lines need)) found = Ok found
+smaller_of (Err Gates) found = Ok found
+smaller_of (Err Memory) found = Err Memory
+
+-- the best plan so far is no worse than the lean one, where that fits
+pub record IsBestSoFar (s : SettledView) (b : BudgetView) (lean : Result LaidView PlanFault)
+    (laid : LaidView) : Type 0 where
+  pub plan : IsLaidNarrow Zero s b laid
+  pub enough : lean ≢ Err Memory
+  pub best : IfOk lean (IsAsCompact laid)
+
+-- what was found beside the lean plan: the best so far; or its refusal; or that memory was wanting
+abbrev pub IsFoundSoFar : SettledView → BudgetView → Result LaidView PlanFault
+    → Result LaidView PlanFault → Type 0
+IsFoundSoFar s b lean (Ok laid) = IsBestSoFar s b lean laid
+IsFoundSoFar s b lean (Err (Lines need)) = lean ≡ Err (Lines need)
+IsFoundSoFar s b lean (Err Gates) = lean ≡ Err Gates
+IsFoundSoFar s b lean (Err Memory) = HasPortLines (ports_of s) b
+
+-- a search that began with the lean plan
+pub record IsCompactSearch (s : SettledView) (b : BudgetView) (tried : Result LaidView PlanFault)
+    : Type 0 where
+  pub lean : Result LaidView PlanFault
+  pub is_lean : IfOk lean (IsLean s b)
+  pub refused : IfErr lean (IsChoiceFault Lean s b)
+  pub so_far : IsFoundSoFar s b lean tried
