@@ -13,7 +13,7 @@ use Rattle.arith_templates.specs.declared.kind.Kind.TheVariants.{Add, Sub, Less,
 use Rattle.arith_templates.specs.declared.limits.TheConstants.{MOST_FACTOR}
 use Rattle.circuit_plans.specs.declared.plan.TheConstants.{MOST_LINES, MOST_GATES, MOST_BORROWED}
 use Rattle.circuit_plans.specs.declared.choice.How.{How}
-use Rattle.circuit_plans.specs.declared.choice.How.TheVariants.{Auto, Eager, Lean, Pebble}
+use Rattle.circuit_plans.specs.declared.choice.How.TheVariants.{Auto, Compact, Eager, Lean, Pebble}
 use Rattle.revc_words.specs.declared.limits.TheConstants.{MOST_DIGITS, MOST_NODES, USUAL_LINES, USUAL_GATES, USUAL_NODES}
 use Rattle.revc_words.specs.declared.order.Format.{Format}
 use Rattle.revc_words.specs.declared.order.Format.TheVariants.{Real, Qasm}
@@ -123,6 +123,7 @@ first_says text (first ∷ others) word one e = at (bytes_eq word (text first)) 
 
 pub plan_named : (plan : How) → plan_of (plan_word plan) ≡ Some plan
 plan_named Auto = refl
+plan_named Compact = refl
 plan_named Eager = refl
 plan_named Lean = refl
 plan_named Pebble = refl
@@ -170,6 +171,7 @@ number_rule least most usual = record {
 
 pub plan_is_no_option : (plan : How) → is_option (plan_word plan) ≡ false
 plan_is_no_option Auto = refl
+plan_is_no_option Compact = refl
 plan_is_no_option Eager = refl
 plan_is_no_option Lean = refl
 plan_is_no_option Pebble = refl
@@ -208,7 +210,7 @@ plan_rule = record {
   value = plan_of;
   Writes = λ word plan. word ≡ plan_word plan;
   usual = Auto;
-  says = first_says plan_word (Auto ∷ Eager ∷ Lean ∷ Pebble ∷ []);
+  says = first_says plan_word (Auto ∷ Compact ∷ Eager ∷ Lean ∷ Pebble ∷ []);
   found = λ word plan is. ap plan_of is ∙ plan_named plan;
   no_option = λ word plan is. ap is_option is ∙ plan_is_no_option plan;
 }

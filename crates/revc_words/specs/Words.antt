@@ -11,7 +11,7 @@ use Rattle.arith_templates.specs.declared.kind.Kind.TheVariants.{Add, Sub, Less,
 use Rattle.arith_templates.specs.declared.limits.TheConstants.{MOST_FACTOR}
 use Rattle.circuit_plans.specs.declared.plan.TheConstants.{MOST_LINES, MOST_GATES, MOST_BORROWED}
 use Rattle.circuit_plans.specs.declared.choice.How.{How}
-use Rattle.circuit_plans.specs.declared.choice.How.TheVariants.{Auto, Eager, Lean, Pebble}
+use Rattle.circuit_plans.specs.declared.choice.How.TheVariants.{Auto, Compact, Eager, Lean, Pebble}
 use Rattle.program_gen.specs.declared.adder.TheConstants.{MOST_BITS}
 use Rattle.revc_words.specs.declared.limits.TheConstants.{MOST_DIGITS, MOST_NODES, USUAL_LINES, USUAL_GATES, USUAL_NODES}
 use Rattle.revc_words.specs.Commands.{name_of, options_of, takes_of}
@@ -139,6 +139,7 @@ pub record IsNumberIn (least most : ℕ) (word : List ℕ) (n : ℕ) : Type 0 wh
 -- the word for a choice of plans
 abbrev pub plan_word : How → List ℕ
 plan_word Auto = codes "auto"
+plan_word Compact = codes "compact"
 plan_word Eager = codes "eager"
 plan_word Lean = codes "lean"
 plan_word Pebble = codes "pebble"

@@ -88,6 +88,7 @@ impl Choice for How {
     fn named(name: &str) -> Option<How> {
         match name {
             "auto" => Some(How::Auto),
+            "compact" => Some(How::Compact),
             "eager" => Some(How::Eager),
             "lean" => Some(How::Lean),
             "pebble" => Some(How::Pebble),

@@ -12,7 +12,7 @@ use Rattle.arith_templates.specs.declared.kind.Kind.TheVariants.{Add, Sub, Less,
 use Rattle.arith_templates.specs.declared.limits.TheConstants.{MOST_FACTOR}
 use Rattle.circuit_plans.specs.declared.plan.TheConstants.{MOST_LINES, MOST_GATES, MOST_BORROWED}
 use Rattle.circuit_plans.specs.declared.choice.How.{How}
-use Rattle.circuit_plans.specs.declared.choice.How.TheVariants.{Auto, Eager, Lean, Pebble}
+use Rattle.circuit_plans.specs.declared.choice.How.TheVariants.{Auto, Compact, Eager, Lean, Pebble}
 use Rattle.program_gen.specs.declared.adder.TheConstants.{MOST_BITS}
 use Rattle.revc_words.specs.declared.limits.TheConstants.{MOST_DIGITS, MOST_NODES, USUAL_LINES, USUAL_GATES, USUAL_NODES}
 use Rattle.revc_words.specs.Commands.{name_of, options_of, takes_of}
@@ -119,7 +119,7 @@ number_of least most word =
     cond (is_number_in least most word) (Some (digits_value 10 word)) None
 
 abbrev pub plan_of : List ℕ → Option How
-plan_of word = first_with plan_word (Auto ∷ Eager ∷ Lean ∷ Pebble ∷ []) word
+plan_of word = first_with plan_word (Auto ∷ Compact ∷ Eager ∷ Lean ∷ Pebble ∷ []) word
 
 abbrev pub format_of : List ℕ → Option Format
 format_of word = first_with format_word (Real ∷ Qasm ∷ []) word
