@@ -1,5 +1,5 @@
 -- The text of a clean plan is a clean file for the one program of a text, and why there is no plan.
-use Rattle.std.proofs.Common.{◌≡◌, ℕ, ◌+◌, ◌≤◌, suc, Bool, cond, List, Result, Ok, Err, length, sum, max, refl, sym, ap, ◌∙◌, subst, inl, inr, arith}
+use Rattle.std.proofs.Common.{◌≡◌, ℕ, ◌+◌, ◌*◌, ◌≤◌, suc, Bool, cond, List, Result, Ok, Err, length, sum, max, refl, sym, ap, ◌∙◌, subst, inl, inr, arith}
 use Rattle.std.specs.Prelude.{nat_lt}
 use Rattle.std.specs.Result.{IfOk, IfErr}
 use Rattle.std.proofs.lemmas.Bool.Decides.{leb_tells}
@@ -15,10 +15,12 @@ use Rattle.circuit_plans.specs.Plans.{BudgetView, LaidView, PutsOutputs, roles_o
 use Rattle.mct_circuit.specs.Gates.{AreGatesOn, AreNarrow}
 use Rattle.qasm_format.proofs.MeaningLemmas as qasm
 use Rattle.real_format.proofs.MeaningLemmas as real
-use Rattle.plan_choice.specs.Choices.{IsChosen, IsLean}
+use Rattle.mct_circuit.specs.Sizes.{counts_of}
+use Rattle.plan_choice.specs.Choices.{IsChosen, IsCompact, IsLean}
 use Rattle.program_commands.specs.Outcomes.{IsCompileFault, IsSettlingFault, IsWritable, file_of}
 use Rattle.revc_words.specs.declared.order.Format.{Format}
 use Rattle.revc_words.specs.declared.order.Format.TheVariants.{Real, Qasm}
+use Rattle.revs_tape.specs.Measures.{ands_of}
 use Rattle.revs_tape.specs.Tapes.{TapeView, bit_on, outputs_on}
 use Rattle.revc_words.specs.Words.{OrderView, IsWithinLimits}
 use Rattle.revs_parser.proofs.OneTextLemmas.{one_formed}
@@ -68,9 +70,16 @@ writable laid p b c =
 few_toffoli_gates : (order : OrderView) (laid : LaidView) (tape : TapeView) (s : SettledView) → IsSettledOf tape s → IsNoLarger tape s
     → IsChosen order.plan s (budget_of order) laid → HasFewToffoliGates order tape laid.circuit.gates
 few_toffoli_gates order laid tape s is no_larger chosen = record {
-  few = λ lean m are fit.
-      let plan : IsLean s (budget_of order) laid = subst (λ (how : How). IsChosen how s (budget_of order) laid) lean chosen in
-      omega (arith, plan.few m (settled_graphs_are_within tape s m is no_larger are) fit, no_larger.ands);
+  few = λ which m are fit.
+      (let within = settled_graphs_are_within tape s m is no_larger are in
+      elim which as (λ _. (counts_of laid.circuit.gates).ccx ≤ 2 * ands_of tape) [
+        | inl lean ↦
+            let plan : IsLean s (budget_of order) laid = subst (λ (how : How). IsChosen how s (budget_of order) laid) lean chosen in
+            omega (arith, plan.few m within fit, no_larger.ands)
+        | inr compact ↦
+            let plan : IsCompact s (budget_of order) laid = subst (λ (how : How). IsChosen how s (budget_of order) laid) compact chosen in
+            omega (arith, plan.few m within fit, no_larger.ands)
+      ]);
 }
 
 planned : (order : OrderView) (text : List ℕ) (laid : LaidView) (tape : TapeView) (s : SettledView) (l : LeavesSettled text order.nodes tape)

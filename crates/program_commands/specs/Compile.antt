@@ -1,5 +1,5 @@
 -- `compile`: the file of a program's clean circuit.
-use Rattle.std.specs.Prelude.{◌≡◌, ℕ, ◌+◌, ◌*◌, ◌≤◌, List, length, max, Some, [], ◌∷◌}
+use Rattle.std.specs.Prelude.{◌≡◌, ◌⊎◌, ℕ, ◌+◌, ◌*◌, ◌≤◌, List, length, max, Some, [], ◌∷◌}
 use Rattle.command_answers.specs.Outcomes.{Promise, budget_promise}
 use Rattle.program_commands.specs.Refusals.{program_limit}
 use Rattle.claim_check.specs.Budgets.{Measures}
@@ -9,7 +9,7 @@ use Rattle.circuit_plans.specs.declared.roles.Roles.{Roles}
 use Rattle.circuit_plans.specs.Plans.{BudgetView, LaidView, lines_in, roles_of}
 use Rattle.mct_circuit.specs.Gates.{GateView}
 use Rattle.mct_circuit.specs.Sizes.{counts_of}
-use Rattle.circuit_plans.specs.declared.choice.How.TheVariants.{Lean}
+use Rattle.circuit_plans.specs.declared.choice.How.TheVariants.{Compact, Lean}
 use Rattle.plan_choice.specs.Choices.{HasFewLines, HasFewGates, IsChosen, LeanFits, SomeRowFits}
 use Rattle.revs_tape.specs.Measures.{ands_of, inputs_of, outputs_of}
 use Rattle.revs_tape.specs.Tapes.{TapeView}
@@ -26,16 +26,19 @@ abbrev pub budget_of : OrderView → BudgetView
 budget_of order =
     record { lines = order.lines; gates = order.gates; borrow = order.borrow }
 
--- The law of Toffoli gates: under the plan `lean`, where both numbers of its row fit the budgets by the measures of the
--- program's tape, there are at most two Toffoli gates (flips with two controls) for each AND that the program's run writes.
+-- The law of Toffoli gates: under the plans `lean` and `compact`, where both numbers of the lean row fit the budgets by
+-- the measures of the program's tape, there are at most two Toffoli gates (flips with two controls) for each AND that
+-- the program's run writes.
 pub record HasFewToffoliGates (order : OrderView) (tape : TapeView) (gates : List GateView)
     : Type 0 where
-  pub few : order.plan ≡ Lean → (m : Measures) → AreMeasuresOf tape m
-      → LeanFits (budget_of order) m → (counts_of gates).ccx ≤ 2 * ands_of tape
+  pub few : (order.plan ≡ Lean) ⊎ (order.plan ≡ Compact) → (m : Measures)
+      → AreMeasuresOf tape m → LeanFits (budget_of order) m
+      → (counts_of gates).ccx ≤ 2 * ands_of tape
 
 -- These lines and gates are those of a plan that the order asks for, of a settled graph of the tape: an eager one within
 -- the graph's eager numbers; a pebbling within the numbers of the largest block that fits, which comes without `--plan`
--- only where the eager numbers do not fit; or the better of two plans of its lean graph, of few Toffoli gates.
+-- only where the eager numbers do not fit; or the better of two plans of its lean graph, or the best of those and of what
+-- planners found, of few Toffoli gates.
 pub record IsPlannedAs (order : OrderView) (tape : TapeView) (roles : Roles)
     (gates : List GateView) : Type 0 where
   pub graph : SettledView
