@@ -1,8 +1,8 @@
 -- What is asked of a diagram while a circuit is compared: the functions of what holds a bit, and nothing else.
-use Rattle.std.proofs.Common.{◌≡◌, ℕ, ◌+◌, ◌-◌, ◌<◌, inl, inr, Bool, false, List, [], ◌++◌, length, take, drop, refl, sym, ap, ◌∙◌}
+use Rattle.std.proofs.Common.{◌≡◌, ℕ, ◌+◌, ◌-◌, ◌<◌, inl, inr, Bool, false, List, [], ◌++◌, length, take, drop, refl, sym, ap, subst, ◌∙◌}
 use Rattle.std.proofs.Common.{arith, Result}
 use Rattle.std.proofs.lemmas.Bool.{cases_lt}
-use Rattle.std.proofs.lemmas.List.{get_or-append-add, get_or-drop, get_or-take, get_or_append_left, length-replicate, length-take-le}
+use Rattle.std.proofs.lemmas.List.{get_or-append-add, get_or-drop, get_or-take, get_or_append_left, length-drop, length-replicate, length-take-le}
 use Rattle.list_facts.specs.Bits.{bit_of, zeros}
 use Rattle.decision_diagram.specs.declared.node.DdFault.{DdFault}
 use Rattle.decision_diagram.specs.declared.node.DdFault.TheVariants.{Full, Memory}
@@ -14,10 +14,12 @@ use Rattle.decision_diagram.proofs.NamedLemmas.{HoldsNamed, NamesAllFrom, more_n
 use Rattle.decision_diagram.proofs.RestrictionLemmas.{ComesFrom-of_same}
 use Rattle.claim_check.specs.Variables.{over}
 use Rattle.claim_check.proofs.FunctionLemmas.{same_over, some_restriction, varies_not_steady}
-use Rattle.circuit_verify.specs.Comparisons.{Comparison, inputs_in, start_on, variables_in, work_lines, order_in}
+use Rattle.circuit_verify.specs.Comparisons.{Comparison, borrowed_bits, inputs_in, order_in, output_bits, output_variables, start_on}
+use Rattle.circuit_verify.specs.Comparisons.{variables_behind, variables_in, work_lines}
 use Rattle.circuit_verify.specs.LineFunctions.{Holder, Line, IsHolder, IsMember, IsSameFunction, LineFunction, held_bit, value_on}
 use Rattle.circuit_verify.specs.Verdicts.{HasEnoughLines, IsComparable, IsVerifyFault, verify_fault}
 use Rattle.circuit_verify.specs.inside.Numbers.{GrowsBy, HoldsLines, holder_function, line_function}
+use Rattle.circuit_verify.proofs.HeldLemmas.{bit-held_by, few_variables, length-held_by}
 use Rattle.circuit_verify.proofs.OrderLemmas.{ordered_in}
 
 -- ---- members by name
@@ -102,56 +104,98 @@ answered q h f first old new r comparable holder same before made =
 
 -- ---- bits before the gates
 
--- what holds the bit of an input or of a borrowed line
+-- what holds the bit of a variable
 pub record IsHeldBit (q : Comparison) (i : ℕ) : Type 0 where
   pub holder : Holder
   pub is : IsHolder q holder
   pub same : AreSame (over (variables_in q) (order_in q) (λ bits. bit_of bits i)) (holder_function q holder)
 
--- an input line, and a borrowed one
+behind_size : (q : Comparison) (bits : List Bool) → length bits ≡ variables_in q → length (drop (inputs_in q) bits) ≡ variables_behind q
+behind_size q bits size = length-drop (inputs_in q) bits ∙ omega (arith, size)
+
+-- an input line, an output line that has a variable, and a borrowed line
 input_bit : (q : Comparison) (bits : List Bool) (i : ℕ) → length bits ≡ variables_in q → i < inputs_in q
     → bit_of (start_on q bits) i ≡ bit_of bits i
 input_bit q bits i size low =
     let n : ℕ = inputs_in q in
     let front : length (take n bits) ≡ n = length-take-le n bits (omega (arith, size)) in
-    get_or_append_left (take n bits) (zeros q.program.outputs ++ (zeros (work_lines q) ++ drop n bits)) false i (omega (arith, low, front))
+    get_or_append_left (take n bits) (output_bits q bits ++ (zeros (work_lines q) ++ borrowed_bits q bits)) false i (omega (arith, low, front))
     ∙ get_or-take n bits i false low
 
+output_bit : (q : Comparison) (bits : List Bool) (k : ℕ) → length bits ≡ variables_in q → k < output_variables q.start q.program.outputs
+    → bit_of (start_on q bits) (inputs_in q + k) ≡ bit_of bits (inputs_in q + k)
+output_bit q bits k size low =
+    let n : ℕ = inputs_in q in
+    let rest : List Bool = zeros (work_lines q) ++ borrowed_bits q bits in
+    let front : length (take n bits) ≡ n = length-take-le n bits (omega (arith, size)) in
+    ap (λ (m : ℕ). bit_of (start_on q bits) (m + k)) (sym front)
+    ∙ get_or-append-add (take n bits) (output_bits q bits ++ rest) k false
+    ∙ bit-held_by q.start q.program.outputs q.borrow k (drop n bits) rest (behind_size q bits size) low
+    ∙ get_or-drop n bits k false
+
 borrowed_bit : (q : Comparison) (bits : List Bool) (k : ℕ) → length bits ≡ variables_in q
-    → bit_of (start_on q bits) (inputs_in q + (q.program.outputs + (work_lines q + k))) ≡ bit_of bits (inputs_in q + k)
+    → bit_of (start_on q bits) (inputs_in q + (q.program.outputs + (work_lines q + k)))
+    ≡ bit_of bits (inputs_in q + (output_variables q.start q.program.outputs + k))
 borrowed_bit q bits k size =
     let n : ℕ = inputs_in q in
     let o : ℕ = q.program.outputs in
+    let v : ℕ = output_variables q.start q.program.outputs in
     let w : ℕ = work_lines q in
-    let idle : List Bool = zeros w ++ drop n bits in
+    let held : List Bool = output_bits q bits in
+    let borrowed : List Bool = borrowed_bits q bits in
+    let idle : List Bool = zeros w ++ borrowed in
     let front : length (take n bits) ≡ n = length-take-le n bits (omega (arith, size)) in
-    let outputs : length (zeros o) ≡ o = length-replicate o false in
+    let outputs : length held ≡ o = length-held_by q.start o q.borrow (drop n bits) (behind_size q bits size) in
     let work : length (zeros w) ≡ w = length-replicate w false in
     ap (λ (m : ℕ). bit_of (start_on q bits) (m + (o + (w + k)))) (sym front)
-    ∙ get_or-append-add (take n bits) (zeros o ++ idle) (o + (w + k)) false
-    ∙ ap (λ (m : ℕ). bit_of (zeros o ++ idle) (m + (w + k))) (sym outputs)
-    ∙ get_or-append-add (zeros o) idle (w + k) false
+    ∙ get_or-append-add (take n bits) (held ++ idle) (o + (w + k)) false
+    ∙ ap (λ (m : ℕ). bit_of (held ++ idle) (m + (w + k))) (sym outputs)
+    ∙ get_or-append-add held idle (w + k) false
     ∙ ap (λ (m : ℕ). bit_of idle (m + k)) (sym work)
-    ∙ get_or-append-add (zeros w) (drop n bits) k false
-    ∙ get_or-drop n bits k false
+    ∙ get_or-append-add (zeros w) borrowed k false
+    ∙ get_or-drop v (drop n bits) k false
+    ∙ get_or-drop n bits (v + k) false
+
+input_held : (q : Comparison) → HasEnoughLines q → (i : ℕ) → i < inputs_in q → IsHeldBit q i
+input_held q enough i low = record {
+  holder = Line 0 i;
+  is = (omega arith, omega (arith, low, enough));
+  same = same_over (ordered_in q) (λ bits. bit_of bits i) (held_bit q (Line 0 i)) (λ bits size. sym (input_bit q bits i size low));
+}
+
+output_held : (q : Comparison) → HasEnoughLines q → (k : ℕ) → k < output_variables q.start q.program.outputs → IsHeldBit q (inputs_in q + k)
+output_held q enough k low =
+    let few = few_variables q.start q.program.outputs in
+    let line : ℕ = inputs_in q + k in
+    record {
+      holder = Line 0 line;
+      is = (omega arith, omega (arith, low, few, enough));
+      same = same_over (ordered_in q) (λ bits. bit_of bits line) (held_bit q (Line 0 line)) (λ bits size. sym (output_bit q bits k size low));
+    }
+
+borrowed_held : (q : Comparison) → HasEnoughLines q → (k : ℕ) → k < q.borrow
+    → IsHeldBit q (inputs_in q + (output_variables q.start q.program.outputs + k))
+borrowed_held q enough k low =
+    let line : ℕ = inputs_in q + (q.program.outputs + (work_lines q + k)) in
+    let place : ℕ = inputs_in q + (output_variables q.start q.program.outputs + k) in
+    record {
+      holder = Line 0 line;
+      is = (omega arith, omega (arith, low, enough));
+      same = same_over (ordered_in q) (λ bits. bit_of bits place) (held_bit q (Line 0 line)) (λ bits size. sym (borrowed_bit q bits k size));
+    }
 
 pub held_bit_of : (q : Comparison) → HasEnoughLines q → (i : ℕ) → i < variables_in q → IsHeldBit q i
 held_bit_of q enough i low =
     let n : ℕ = inputs_in q in
+    let v : ℕ = output_variables q.start q.program.outputs in
     elim (cases_lt i n) as (λ _. IsHeldBit q i) [
-      | inl early ↦ record {
-        holder = Line 0 i;
-        is = (omega arith, omega (arith, early, enough));
-        same = same_over (ordered_in q) (λ bits. bit_of bits i) (held_bit q (Line 0 i)) (λ bits size. sym (input_bit q bits i size early));
-      }
-      | inr late ↦
-          let k : ℕ = i - n in
-          let line : ℕ = n + (q.program.outputs + (work_lines q + k)) in
-          let is_i : n + k ≡ i = omega (arith, late) in
-          record {
-            holder = Line 0 line;
-            is = (omega arith, omega (arith, low, late, enough));
-            same = same_over (ordered_in q) (λ bits. bit_of bits i) (held_bit q (Line 0 line))
-                (λ bits size. sym (borrowed_bit q bits k size ∙ ap (bit_of bits) is_i));
-          }
+      | inl input ↦ input_held q enough i input
+      | inr late ↦ elim (cases_lt i (n + v)) as (λ _. IsHeldBit q i) [
+        | inl output ↦
+            let is : n + (i - n) ≡ i = omega (arith, late) in
+            subst (IsHeldBit q) is (output_held q enough (i - n) (omega (arith, late, output)))
+        | inr borrowed ↦
+            let is : n + (v + (i - (n + v))) ≡ i = omega (arith, borrowed) in
+            subst (IsHeldBit q) is (borrowed_held q enough (i - (n + v)) (omega (arith, low, borrowed)))
+      ]
     ]

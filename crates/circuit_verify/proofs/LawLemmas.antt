@@ -1,5 +1,5 @@
 -- A comparison ends in one way.
-use Rattle.std.proofs.Common.{◌≡◌, ℕ, zero, suc, ◌<◌, ◌≤◌, ◌⊎◌, inl, inr, Bool, true, false, List, [], ◌∷◌, length, take, drop, get_or, sym, ap, ◌∙◌}
+use Rattle.std.proofs.Common.{◌≡◌, ℕ, zero, suc, ◌+◌, ◌<◌, ◌≤◌, ◌⊎◌, inl, inr, Bool, true, false, List, [], ◌∷◌, length, take, drop, get_or, sym, ap, ◌∙◌}
 use Rattle.std.proofs.Common.{subst, arith}
 use Rattle.std.specs.List.{AllByRecursion}
 use Rattle.std.proofs.lemmas.Bool.{cases_Bool, cases_lt}
@@ -10,8 +10,9 @@ use Rattle.list_facts.proofs.FirstLemmas.{none_without, one_without}
 use Rattle.revs_tape.specs.VariableOrders.{IsBefore}
 use Rattle.claim_check.proofs.VariableLemmas.{AreBits, Ordered, assignment_at, same_bits}
 use Rattle.mct_circuit.specs.Gates.{IsNarrow}
-use Rattle.circuit_verify.specs.Comparisons.{Comparison, Agrees, inputs_in}
+use Rattle.circuit_verify.specs.Comparisons.{Comparison, Agrees, held_by, inputs_in, output_variables}
 use Rattle.circuit_verify.specs.Verdicts.{ComparisonsEndInOneWay, DiffersFirst}
+use Rattle.circuit_verify.proofs.HeldLemmas.{held_may, length-held_by}
 use Rattle.circuit_verify.proofs.OrderLemmas.{ordered_in}
 
 -- ---- bits in an order
@@ -91,9 +92,13 @@ same_or_before v one other size size2 =
 none_differs : (q : Comparison) (line : ℕ) (bits : List Bool) → Agrees q → DiffersFirst q line bits → ⊥
 none_differs q line bits agrees first =
     let n : ℕ = inputs_in q in
-    let puts = agrees.puts (take n bits) (drop n bits) (length-take-le n bits (omega (arith, first.are_bits)))
-    (length-drop n bits ∙ omega (arith, first.are_bits)) in
-    first.differs (ap (λ (z : List Bool). bit_of z line) puts.mapped)
+    let o : ℕ = q.program.outputs in
+    let v : ℕ = output_variables q.start o in
+    let behind : List Bool = drop n bits in
+    let size : length behind ≡ v + q.borrow = length-drop n bits ∙ omega (arith, first.are_bits) in
+    let adds = agrees.adds (take n bits) (held_by q.start o behind) (drop v behind) (length-take-le n bits (omega (arith, first.are_bits)))
+    (length-held_by q.start o q.borrow behind size) (held_may q.start o behind) (length-drop v behind ∙ omega (arith, size)) in
+    first.differs (ap (λ (z : List Bool). bit_of z line) adds.mapped)
 
 one_line : (q : Comparison) (line other : ℕ) (bits others : List Bool) → DiffersFirst q line bits → DiffersFirst q other others → line ≡ other
 one_line q line other bits others first second =

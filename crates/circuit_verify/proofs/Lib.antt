@@ -1,4 +1,5 @@
 pub mod AskLemmas
+pub mod HeldLemmas
 pub mod LawLemmas
 pub mod LineLemmas
 pub mod NumberLemmas

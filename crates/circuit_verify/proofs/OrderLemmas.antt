@@ -1,4 +1,4 @@
--- The variables of a comparison: the inputs in the order of a program, and then the borrowed lines.
+-- The variables of a comparison: the inputs in the order of a program, and then those of lines behind them.
 use Rattle.std.proofs.Common.{◌≡◌, ◌≢◌, ℕ, suc, ◌+◌, ◌-◌, ◌<◌, ◌≤◌, inl, inr, List, [], ◌∷◌, ◌++◌, length, map, sum, get_or, slice_get, Some, sym, ap, ap₂, ◌∙◌}
 use Rattle.std.proofs.Common.{subst, arith, append_assoc, append-nil, length-append}
 use Rattle.std.specs.List.{AllByRecursion}
@@ -13,7 +13,7 @@ use Rattle.revs_tape.specs.VariableOrders.{IsOrderOf, variable_order}
 use Rattle.revs_tape.proofs.VariableOrderLemmas.{is_order}
 use Rattle.claim_check.specs.Variables.{AreVariables}
 use Rattle.claim_check.proofs.VariableLemmas.{Ordered, at_below}
-use Rattle.circuit_verify.specs.Comparisons.{Comparison, inputs_in, order_in, variables_in}
+use Rattle.circuit_verify.specs.Comparisons.{Comparison, inputs_in, order_in, variables_behind, variables_in}
 
 AreDifferent-shifted : (n : ℕ) (xs : List ℕ) → AreDifferent xs → AreDifferent (map (λ k. n + k) xs)
 AreDifferent-shifted n [] different = tt
@@ -53,7 +53,7 @@ abbrev pub ordered_in : Comparison → Ordered
 ordered_in q = record {
   count = variables_in q;
   order = order_in q;
-  is = longer_order (inputs_in q) q.borrow (variable_order q.program.params) (is_order q.program.params);
+  is = longer_order (inputs_in q) (variables_behind q) (variable_order q.program.params) (is_order q.program.params);
 }
 
 -- ---- the variables as a table
@@ -61,7 +61,7 @@ ordered_in q = record {
 at_shifted : (n count k : ℕ) → k < count → get_or (map (λ i. n + i) (below count)) k 0 ≡ n + k
 at_shifted n count k low = get_or-map (λ i. n + i) (below count) k 0 0 (omega (arith, low, length-below count)) ∙ ap (λ i. n + i) (at_below count k low)
 
--- the variables of n inputs, and behind them those of the borrowed lines
+-- the variables of n inputs, and behind them those of other lines
 pub longer_variables : (n count : ℕ) (order variables : List ℕ) → IsOrderOf n order → AreVariables n order variables
     → AreVariables (n + count) (order ++ map (λ k. n + k) (below count)) (variables ++ map (λ k. n + k) (below count))
 longer_variables n count order variables is are =
@@ -95,7 +95,7 @@ pub below_more : (n k : ℕ) (xs : List ℕ) → (xs ++ map (λ i. n + i) (below
 below_more n k xs =
     append_assoc xs (map (λ i. n + i) (below k)) ((n + k) ∷ []) ∙ ap (λ ys. xs ++ ys) (sym (map-append (λ i. n + i) (below k) (k ∷ [])))
 
--- the next borrowed line
+-- the next line
 pub variable_more : (xs all : List ℕ) (n v : ℕ) → n ≤ v → all ≡ xs ++ map (λ i. n + i) (below (v - n))
     → all ++ v ∷ [] ≡ xs ++ map (λ i. n + i) (below ((v + 1) - n))
 variable_more xs all n v low is =

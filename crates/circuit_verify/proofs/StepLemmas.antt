@@ -1,18 +1,20 @@
 -- The steps of a comparison: one more bit, one more node, one more output, one more gate.
 use Rattle.std.proofs.Common.{◌≡◌, ℕ, ◌+◌, ◌<◌, ◌≤◌, Bool, false, List, [], ◌∷◌, ◌++◌, length, map, take, drop, replicate, get_or, slice_get, Some}
 use Rattle.std.proofs.Common.{sym, ap, ap₂, ◌∙◌, subst, arith, Result, length-append}
+use Rattle.std.specs.Bool.{xor}
 use Rattle.std.specs.List.{AllByRecursion}
-use Rattle.std.proofs.lemmas.List.{length-drop, length-map, length-replicate, length-take-le, map-append, take_all, take_more}
+use Rattle.std.proofs.lemmas.Simd.{get_or-zip2, length-zip2}
+use Rattle.std.proofs.lemmas.List.{get_or-append-add, get_or_append_left, length-drop, length-map, length-replicate, length-take-le, map-append, take_all, take_more}
 use Rattle.list_facts.specs.Bits.{bit_of, zeros}
 use Rattle.list_facts.proofs.AllLemmas.{AllByRecursion-at, AllByRecursion-right}
 use Rattle.dependency_graph.specs.declared.node.Node.{Node}
 use Rattle.dependency_graph.specs.declared.node.Sig.{Sig}
 use Rattle.dependency_graph.specs.Graphs.{IsKnownNode, IsKnownSig}
-use Rattle.decision_diagram.specs.Diagrams.{DiagramView, Triple}
-use Rattle.decision_diagram.specs.Functions.{AreSame, Assignment, Function, variable_at}
+use Rattle.decision_diagram.specs.Diagrams.{DiagramView, Triple, function_of}
+use Rattle.decision_diagram.specs.Functions.{AreSame, Assignment, Function, exclusive_or, variable_at}
 use Rattle.decision_diagram.specs.declared.node.DdFault.{DdFault}
 use Rattle.decision_diagram.specs.declared.node.DdFault.TheVariants as dd
-use Rattle.decision_diagram.specs.Growth.{Computes, MayRefuse, StandsFor}
+use Rattle.decision_diagram.specs.Growth.{Computes, KeepsNodes, MayRefuse, StandsFor}
 use Rattle.decision_diagram.proofs.GrowthLemmas.{StandsFor-same}
 use Rattle.claim_check.specs.Measures.{node_function}
 use Rattle.claim_check.specs.Settled.{settled_outputs, settled_value}
@@ -24,16 +26,20 @@ use Rattle.mct_circuit.specs.declared.gate.Op.{Op}
 use Rattle.mct_circuit.specs.declared.gate.Op.TheVariants.{Flip}
 use Rattle.mct_circuit.specs.Gates.{AreGatesOn, GateView, IsGateOn, after_gate, line_map, targets_of}
 use Rattle.mct_circuit.proofs.ReversalLemmas.{length-line_map}
-use Rattle.circuit_verify.specs.Comparisons.{Comparison, input_bits, inputs_in, order_in, start_on, variables_in, wanted_on, work_lines}
-use Rattle.circuit_verify.specs.LineFunctions.{Line, Step}
+use Rattle.circuit_plans.specs.declared.roles.Start.{Start}
+use Rattle.circuit_plans.specs.Plans.{added}
+use Rattle.circuit_verify.specs.Comparisons.{Comparison, borrowed_bits, input_bits, inputs_in, order_in, output_bits, output_variables}
+use Rattle.circuit_verify.specs.Comparisons.{start_on, variables_in, wanted_on, work_lines}
+use Rattle.circuit_verify.specs.LineFunctions.{Line, Step, Wanted}
 use Rattle.circuit_verify.specs.Verdicts.{HasEnoughLines, IsComparable, verify_fault}
 use Rattle.circuit_verify.specs.declared.fault.VerifyFault.TheVariants as faults
 use Rattle.circuit_verify.specs.inside.Compared.{ComparedView, IsReady, comparison}
-use Rattle.circuit_verify.specs.inside.Numbers.{AreEnds, AreNumbersOf, GrowsBy, bits_in, first_values}
+use Rattle.circuit_verify.specs.inside.Numbers.{AreEnds, AreLaid, AreNumbersOf, GrowsBy, bits_in, first_values, held_numbers}
 use Rattle.circuit_verify.specs.inside.Numbers.{holder_function, line_function_of, node_function_of, sig_function_of}
 use Rattle.circuit_verify.proofs.AskLemmas.{IsAnswered, IsHeldBit, answered, held_bit_of}
+use Rattle.circuit_verify.proofs.HeldLemmas.{held_are, length-held_by}
 use Rattle.circuit_verify.proofs.LineLemmas.{line_map_next}
-use Rattle.circuit_verify.proofs.NumberLemmas.{length-bits_in, length-numbers, numbers-append, numbers-drop}
+use Rattle.circuit_verify.proofs.NumberLemmas.{bit-at, length-bits_in, length-numbers, numbers-append, numbers-drop, numbers-grown}
 use Rattle.circuit_verify.proofs.NumberLemmas.{numbers-push, numbers-same, numbers-take, numbers-zeros}
 use Rattle.circuit_verify.proofs.OrderLemmas.{ordered_in}
 use Rattle.circuit_verify.proofs.ValueLemmas.{length-values, node_is, node_more, sig_is, sig_more, values_more}
@@ -166,22 +172,26 @@ all_outputs v nodes outputs i most are =
 -- ---- lines
 
 -- input bits, output lines, work lines and borrowed bits
-pub lines_laid : (q : Comparison) (nodes : List Triple) (bits outputs lines : List ℕ) (inputs work never : ℕ) (value : List Bool → List Bool)
-    → inputs ≡ inputs_in q → work ≡ work_lines q
-    → lines ≡ take inputs bits ++ (outputs ++ (replicate work never ++ drop inputs bits)) → AreNumbersOf q nodes bits (λ b. b)
-    → AreNumbersOf q nodes outputs value → StandsFor nodes never (λ a. false)
-    → AreNumbersOf q nodes lines (λ b. take (inputs_in q) b ++ (value b ++ (zeros (work_lines q) ++ drop (inputs_in q) b)))
-lines_laid q nodes bits outputs lines inputs work never value is_inputs is_work laid of_bits of_outputs stands =
-    let n : ℕ = inputs_in q in
-    let w : ℕ = work_lines q in
-    let whole : lines ≡ take n bits ++ (outputs ++ (replicate w never ++ drop n bits)) =
-    laid ∙ ap₂ (λ (i k : ℕ). take i bits ++ (outputs ++ (replicate k never ++ drop i bits))) is_inputs is_work in
-    let idle = numbers-append q nodes (replicate w never) (drop n bits) (λ b. zeros w) (λ b. drop n b) (numbers-zeros q nodes never w stands)
-    (numbers-drop q nodes n bits (λ b. b) of_bits) in
-    let behind = numbers-append q nodes outputs (replicate w never ++ drop n bits) value (λ b. zeros w ++ drop n b) of_outputs idle in
-    subst (λ (ns : List ℕ). AreNumbersOf q nodes ns (λ b. take n b ++ (value b ++ (zeros w ++ drop n b)))) (sym whole)
-    (numbers-append q nodes (take n bits) (outputs ++ (replicate w never ++ drop n bits)) (λ b. take n b)
-    (λ b. value b ++ (zeros w ++ drop n b)) (numbers-take q nodes n bits (λ b. b) of_bits) behind)
+pub lines_laid : (q : Comparison) (nodes : List Triple) (bits outputs lines : List ℕ) (inputs variables work never : ℕ)
+    → inputs ≡ inputs_in q → variables ≡ output_variables q.start q.program.outputs → work ≡ work_lines q
+    → lines ≡ take inputs bits ++ (outputs ++ (replicate work never ++ drop variables (drop inputs bits))) → AreNumbersOf q nodes bits (λ b. b)
+    → StandsFor nodes never (λ a. false) → AreLaid q nodes outputs lines
+lines_laid q nodes bits outputs lines inputs variables work never is_inputs is_variables is_work laid of_bits stands = record {
+  are = λ value of_outputs.
+      let n : ℕ = inputs_in q in
+      let v : ℕ = output_variables q.start q.program.outputs in
+      let w : ℕ = work_lines q in
+      let rest : List ℕ = drop v (drop n bits) in
+      let whole : lines ≡ take n bits ++ (outputs ++ (replicate w never ++ rest)) =
+      laid ∙ ap (λ (k : ℕ). take inputs bits ++ (outputs ++ (replicate k never ++ drop variables (drop inputs bits)))) is_work
+      ∙ ap₂ (λ (i k : ℕ). take i bits ++ (outputs ++ (replicate w never ++ drop k (drop i bits)))) is_inputs is_variables in
+      let borrowed = numbers-drop q nodes v (drop n bits) (λ b. drop n b) (numbers-drop q nodes n bits (λ b. b) of_bits) in
+      let idle = numbers-append q nodes (replicate w never) rest (λ b. zeros w) (λ b. drop v (drop n b)) (numbers-zeros q nodes never w stands) borrowed in
+      let behind = numbers-append q nodes outputs (replicate w never ++ rest) value (λ b. zeros w ++ drop v (drop n b)) of_outputs idle in
+      subst (λ (ns : List ℕ). AreNumbersOf q nodes ns (λ b. take n b ++ (value b ++ (zeros w ++ drop v (drop n b))))) (sym whole)
+      (numbers-append q nodes (take n bits) (outputs ++ (replicate w never ++ rest)) (λ b. take n b)
+      (λ b. value b ++ (zeros w ++ drop v (drop n b))) (numbers-take q nodes n bits (λ b. b) of_bits) behind);
+}
 
 -- a number for each line
 pub many_lines : (q : Comparison) (nodes : List Triple) (lines : List ℕ) → HasEnoughLines q → AreNumbersOf q nodes lines (start_on q)
@@ -248,40 +258,146 @@ gate_answered v ready lines k target gate first old new r low at flips are befor
 
 -- ---- the ends
 
-many_outputs : (v : ComparedView) (nodes : List Triple) (outputs : List ℕ)
+-- there are as many numbers of outputs as outputs
+pub many_outputs : (v : ComparedView) (nodes : List Triple) (outputs : List ℕ)
     → AreNumbersOf (comparison v) nodes outputs (λ b. settled_outputs v.graph (input_bits (comparison v) b)) → length outputs ≡ length v.graph.outputs
 many_outputs v nodes outputs are =
     let q = comparison v in
     length-numbers q nodes outputs (λ b. settled_outputs v.graph (input_bits q b)) (λ i. false) are
     ∙ length-map v.graph.outputs (settled_value v.graph (input_bits q (bits_in q (λ i. false))))
 
-pub start_numbers : (v : ComparedView) → IsReady v → (nodes : List Triple) (bits outputs blank lines : List ℕ) (inputs work never count : ℕ)
-    → inputs ≡ v.graph.inputs → work ≡ work_lines (comparison v) → count ≡ length outputs → blank ≡ replicate count never
-    → lines ≡ take inputs bits ++ (blank ++ (replicate work never ++ drop inputs bits)) → AreNumbersOf (comparison v) nodes bits (λ b. b)
-    → AreNumbersOf (comparison v) nodes outputs (λ b. settled_outputs v.graph (input_bits (comparison v) b)) → StandsFor nodes never (λ a. false)
-    → AreNumbersOf (comparison v) nodes lines (start_on (comparison v))
-start_numbers v ready nodes bits outputs blank lines inputs work never count is_inputs is_work is_count is_blank laid of_bits of_outputs stands =
+-- and of what the output lines hold
+pub length-output_bits : (q : Comparison) (bits : List Bool) → length bits ≡ variables_in q → length (output_bits q bits) ≡ q.program.outputs
+length-output_bits q bits size =
+    length-held_by q.start q.program.outputs q.borrow (drop (inputs_in q) bits) (length-drop (inputs_in q) bits ∙ omega (arith, size))
+
+pub many_held : (q : Comparison) (nodes : List Triple) (held : List ℕ) → AreNumbersOf q nodes held (output_bits q) → length held ≡ q.program.outputs
+many_held q nodes held are =
+    length-numbers q nodes held (output_bits q) (λ i. false) are ∙ length-output_bits q (bits_in q (λ i. false)) (length-bits_in q (λ i. false))
+
+-- the numbers behind those of the inputs are enough for the output lines that have variables
+pub held_inside : (v : ComparedView) (nodes : List Triple) (bits behind : List ℕ) (start : Start) (outputs inputs : ℕ) → start ≡ v.start
+    → outputs ≡ length v.graph.outputs → inputs ≡ inputs_in (comparison v) → behind ≡ drop inputs bits
+    → AreNumbersOf (comparison v) nodes bits (λ b. b) → output_variables start outputs ≤ length behind
+held_inside v nodes bits behind start outputs inputs is_start is_outputs is_inputs is_behind are =
+    omega (
+      arith,
+      ap₂ output_variables is_start is_outputs,
+      is_inputs,
+      ap (λ (ns : List ℕ). length ns) is_behind,
+      length-drop inputs bits,
+      many_bits (comparison v) nodes bits are,
+    )
+
+-- and give what they hold
+pub held_found : (v : ComparedView) (nodes : List Triple) (bits behind held : List ℕ) (start : Start) (outputs inputs never : ℕ) → start ≡ v.start
+    → outputs ≡ length v.graph.outputs → inputs ≡ inputs_in (comparison v) → behind ≡ drop inputs bits → held ≡ held_numbers start outputs never behind
+    → AreNumbersOf (comparison v) nodes bits (λ b. b) → StandsFor nodes never (λ a. false)
+    → AreNumbersOf (comparison v) nodes held (output_bits (comparison v))
+held_found v nodes bits behind held start outputs inputs never is_start is_outputs is_inputs is_behind is are stands =
     let q = comparison v in
     let o : ℕ = length v.graph.outputs in
-    let size : count ≡ o = is_count ∙ many_outputs v nodes outputs of_outputs in
-    let own : AreNumbersOf q nodes blank (λ b. zeros o) =
-    subst (λ (ns : List ℕ). AreNumbersOf q nodes ns (λ b. zeros o)) (sym (is_blank ∙ ap (λ n. replicate n never) size)) (numbers-zeros q nodes never o stands) in
-    lines_laid q nodes bits blank lines inputs work never (λ b. zeros o) (is_inputs ∙ sym ready.inputs) is_work laid of_bits own stands
+    let n : ℕ = inputs_in q in
+    let whole : held ≡ held_numbers v.start o never (drop n bits) =
+    is ∙ ap₂ (λ (s : Start) (k : ℕ). held_numbers s k never behind) is_start is_outputs
+    ∙ ap (λ (ns : List ℕ). held_numbers v.start o never ns) (is_behind ∙ ap (λ (i : ℕ). drop i bits) is_inputs) in
+    subst (λ (ns : List ℕ). AreNumbersOf q nodes ns (output_bits q)) (sym whole) (held_are q nodes v.start o never n bits are stands)
 
-pub want_numbers : (v : ComparedView) → IsReady v → (nodes : List Triple) (bits outputs lines : List ℕ) (inputs work never : ℕ)
-    → inputs ≡ v.graph.inputs → work ≡ work_lines (comparison v)
-    → lines ≡ take inputs bits ++ (outputs ++ (replicate work never ++ drop inputs bits)) → AreNumbersOf (comparison v) nodes bits (λ b. b)
-    → AreNumbersOf (comparison v) nodes outputs (λ b. settled_outputs v.graph (input_bits (comparison v) b)) → StandsFor nodes never (λ a. false)
-    → AreNumbersOf (comparison v) nodes lines (wanted_on (comparison v))
-want_numbers v ready nodes bits outputs lines inputs work never is_inputs is_work laid of_bits of_outputs stands =
+-- ---- what the output lines should hold
+
+abbrev pub wanted_bits : (v : ComparedView) → List Bool → List Bool
+wanted_bits v bits = added (output_bits (comparison v) bits) (settled_outputs v.graph (input_bits (comparison v) bits))
+
+length-wanted_bits : (v : ComparedView) (bits : List Bool) → length bits ≡ variables_in (comparison v)
+    → length (wanted_bits v bits) ≡ length v.graph.outputs
+length-wanted_bits v bits size =
     let q = comparison v in
-    lines_laid q nodes bits outputs lines inputs work never (λ b. settled_outputs v.graph (input_bits q b)) (is_inputs ∙ sym ready.inputs) is_work laid
-    of_bits of_outputs stands
+    let held : List Bool = output_bits q bits in
+    let out : List Bool = settled_outputs v.graph (input_bits q bits) in
+    let wide : length held ≡ length v.graph.outputs = length-output_bits q bits size in
+    let many : length out ≡ length v.graph.outputs = length-map v.graph.outputs (settled_value v.graph (input_bits q bits)) in
+    length-zip2 xor held out (wide ∙ sym many) ∙ wide
 
--- inputs are among the bits
-pub inputs_inside : (v : ComparedView) → IsReady v → (nodes : List Triple) (bits : List ℕ) (inputs : ℕ) → inputs ≡ v.graph.inputs
-    → AreNumbersOf (comparison v) nodes bits (λ b. b) → inputs ≤ length bits
-inputs_inside v ready nodes bits inputs is are = omega (arith, is, ready.inputs, many_bits (comparison v) nodes bits are)
+-- the exclusive or of what a line holds and its output is what it should hold
+pub record AreOutputs (v : ComparedView) (nodes : List Triple) (held outputs : List ℕ) : Type 0 where
+  pub held_are : AreNumbersOf (comparison v) nodes held (output_bits (comparison v))
+  pub outputs_are : AreNumbersOf (comparison v) nodes outputs (λ b. settled_outputs v.graph (input_bits (comparison v) b))
+
+pub outputs_grown : (v : ComparedView) (old new : DiagramView) (held outputs : List ℕ) → KeepsNodes old new → AreOutputs v old.nodes held outputs
+    → AreOutputs v new.nodes held outputs
+outputs_grown v old new held outputs kept are = record {
+  held_are = numbers-grown (comparison v) old new kept held (output_bits (comparison v)) are.held_are;
+  outputs_are =
+      numbers-grown (comparison v) old new kept outputs (λ b. settled_outputs v.graph (input_bits (comparison v) b)) are.outputs_are;
+}
+
+pub wanted_is : (v : ComparedView) (nodes : List Triple) (held outputs : List ℕ) (k : ℕ) → k < length v.graph.outputs
+    → AreOutputs v nodes held outputs
+    → AreSame (exclusive_or (function_of nodes (get_or held k 0)) (function_of nodes (get_or outputs k 0)))
+    (λ a. bit_of (wanted_bits v (bits_in (comparison v) a)) k)
+wanted_is v nodes held outputs k low are = λ a.
+    let q = comparison v in
+    let bits : List Bool = bits_in q a in
+    let size : length bits ≡ variables_in q = length-bits_in q a in
+    let now : List Bool = output_bits q bits in
+    let out : List Bool = settled_outputs v.graph (input_bits q bits) in
+    let wide : length now ≡ length v.graph.outputs = length-output_bits q bits size in
+    let many : length out ≡ length v.graph.outputs = length-map v.graph.outputs (settled_value v.graph (input_bits q bits)) in
+    ap₂ xor
+    (bit-at nodes held k a (omega (arith, low, many_held q nodes held are.held_are)) ∙ ap (λ (z : List Bool). bit_of z k) (are.held_are.same a))
+    (bit-at nodes outputs k a (omega (arith, low, many_outputs v nodes outputs are.outputs_are))
+    ∙ ap (λ (z : List Bool). bit_of z k) (are.outputs_are.same a))
+    ∙ sym (get_or-zip2 xor now out k false false false (omega (arith, low, wide)) (omega (arith, low, many)))
+
+-- which is held by a line as it should be
+wanted_bit : (v : ComparedView) (bits : List Bool) (k : ℕ) → length bits ≡ variables_in (comparison v) → k < length v.graph.outputs
+    → bit_of (wanted_bits v bits) k ≡ bit_of (wanted_on (comparison v) bits) (inputs_in (comparison v) + k)
+wanted_bit v bits k size low =
+    let q = comparison v in
+    let n : ℕ = inputs_in q in
+    let rest : List Bool = zeros (work_lines q) ++ borrowed_bits q bits in
+    let front : length (take n bits) ≡ n = length-take-le n bits (omega (arith, size)) in
+    sym (ap (λ (m : ℕ). bit_of (wanted_on q bits) (m + k)) (sym front)
+    ∙ get_or-append-add (take n bits) (wanted_bits v bits ++ rest) k false
+    ∙ get_or_append_left (wanted_bits v bits) rest false k (omega (arith, low, length-wanted_bits v bits size)))
+
+pub wanted_answered : (v : ComparedView) → IsReady v → (held outputs : List ℕ) (k : ℕ) (first old new : DiagramView) (r : Result ℕ DdFault)
+    → k < length v.graph.outputs → AreOutputs v first.nodes held outputs → GrowsBy (comparison v) first old
+    → Computes (exclusive_or (function_of old.nodes (get_or held k 0)) (function_of old.nodes (get_or outputs k 0))) old new r
+    → IsAnswered (comparison v) (exclusive_or (function_of old.nodes (get_or held k 0)) (function_of old.nodes (get_or outputs k 0))) first new
+wanted_answered v ready held outputs k first old new r low are before made =
+    let q = comparison v in
+    let there = outputs_grown v first old held outputs before.kept are in
+    answered q (Wanted (inputs_in q + k))
+    (exclusive_or (function_of old.nodes (get_or held k 0)) (function_of old.nodes (get_or outputs k 0))) first old new r ready.comparable
+    (omega (arith, low, ready.comparable.lines))
+    (λ a. wanted_is v old.nodes held outputs k low there a ∙ wanted_bit v (bits_in q a) k (length-bits_in q a) low) before made
+
+-- what is said of numbers that were read is said of those at the place
+pub at_place : (P : Function → Type 0) (nodes : List Triple) (held outputs : List ℕ) (k x y : ℕ) → x ≡ get_or held k 0 → y ≡ get_or outputs k 0
+    → P (exclusive_or (function_of nodes x) (function_of nodes y))
+    → P (exclusive_or (function_of nodes (get_or held k 0)) (function_of nodes (get_or outputs k 0)))
+at_place P nodes held outputs k x y first second said =
+    subst (λ (n : ℕ). P (exclusive_or (function_of nodes (get_or held k 0)) (function_of nodes n))) second
+    (subst (λ (n : ℕ). P (exclusive_or (function_of nodes n) (function_of nodes y))) first said)
+
+-- the number of one more
+pub wanted_more : (v : ComparedView) (nodes : List Triple) (numbers : List ℕ) (n k : ℕ) → k < length v.graph.outputs
+    → AreNumbersOf (comparison v) nodes numbers (λ b. take k (wanted_bits v b))
+    → StandsFor nodes n (λ a. bit_of (wanted_bits v (bits_in (comparison v) a)) k)
+    → AreNumbersOf (comparison v) nodes (numbers ++ n ∷ []) (λ b. take (k + 1) (wanted_bits v b))
+wanted_more v nodes numbers n k low are stands =
+    let q = comparison v in
+    numbers-same q nodes (numbers ++ n ∷ []) (λ b. take k (wanted_bits v b) ++ bit_of (wanted_bits v b) k ∷ [])
+    (λ b. take (k + 1) (wanted_bits v b))
+    (λ b size. sym (take_more (wanted_bits v b) k false (omega (arith, low, length-wanted_bits v b size))))
+    (numbers-push q nodes numbers n (λ b. take k (wanted_bits v b)) (λ b. bit_of (wanted_bits v b) k) are stands)
+
+pub all_wanted : (v : ComparedView) (nodes : List Triple) (numbers : List ℕ) (k : ℕ) → length v.graph.outputs ≤ k
+    → AreNumbersOf (comparison v) nodes numbers (λ b. take k (wanted_bits v b)) → AreNumbersOf (comparison v) nodes numbers (wanted_bits v)
+all_wanted v nodes numbers k most are =
+    numbers-same (comparison v) nodes numbers (λ b. take k (wanted_bits v b)) (wanted_bits v)
+    (λ b size. take_all k (wanted_bits v b) (omega (arith, most, length-wanted_bits v b size))) are
 
 -- a number for each line, before and behind the gates
 length-wanted : (v : ComparedView) → IsReady v → (bits : List Bool) → length bits ≡ variables_in (comparison v)
@@ -289,19 +405,21 @@ length-wanted : (v : ComparedView) → IsReady v → (bits : List Bool) → leng
 length-wanted v ready bits size =
     let q = comparison v in
     let n : ℕ = inputs_in q in
+    let m : ℕ = output_variables q.start q.program.outputs in
     let w : ℕ = work_lines q in
-    let input : List Bool = take n bits in
-    let out : List Bool = settled_outputs v.graph input in
-    length-append input (out ++ (zeros w ++ drop n bits))
+    let out : List Bool = wanted_bits v bits in
+    let borrowed : List Bool = borrowed_bits q bits in
+    let rest : length (drop n bits) ≡ m + q.borrow = length-drop n bits ∙ omega (arith, size) in
+    length-append (take n bits) (out ++ (zeros w ++ borrowed))
     ∙ omega (
       arith,
       length-take-le n bits (omega (arith, size)),
-      length-append out (zeros w ++ drop n bits),
-      length-append (zeros w) (drop n bits),
-      length-map v.graph.outputs (settled_value v.graph input),
+      length-append out (zeros w ++ borrowed),
+      length-append (zeros w) borrowed,
+      length-wanted_bits v bits size,
       length-replicate w false,
-      length-drop n bits,
-      size,
+      length-drop m (drop n bits),
+      rest,
       ready.comparable.lines,
     )
 

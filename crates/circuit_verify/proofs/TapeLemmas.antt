@@ -13,21 +13,24 @@ use Rattle.revs_tape.specs.Tapes.{outputs_on}
 use Rattle.claim_check.specs.Measures.{node_function, write_function}
 use Rattle.claim_check.specs.Settled.{settled_outputs}
 use Rattle.mct_circuit.specs.Gates.{GateView}
+use Rattle.circuit_plans.specs.declared.roles.Start.{Start}
 use Rattle.circuit_verify.specs.declared.fault.VerifyFault.{VerifyFault}
 use Rattle.circuit_verify.specs.declared.fault.VerifyFault.TheVariants as faults
 use Rattle.circuit_verify.specs.Comparisons.{Comparison, of_settled, of_tape, order_in}
-use Rattle.circuit_verify.specs.LineFunctions.{Holder, HasMore, IsHolder, IsMember, IsSameFunction, Line, LineFunction, Step, held_bit, value_on}
+use Rattle.circuit_verify.specs.LineFunctions.{Holder, HasMore, IsHolder, IsMember, IsSameFunction, Line, LineFunction, Step, Wanted}
+use Rattle.circuit_verify.specs.LineFunctions.{held_bit, value_on}
 use Rattle.circuit_verify.specs.Verdicts.{DiffersFirst, IsComparable, IsVerified, IsVerifyFault, SaidOfTapes}
 
 -- Two programs with the same parameters and outputs, where each step of one is a step of the other; and two circuits that differ by
 -- their limits alone.
 module _ (params : List ℕ) (steps others : ℕ) (step other : ℕ → List Bool → Bool) (outputs : ℕ) (value : List Bool → List Bool)
     (made : (k : ℕ) → k < steps → (j : ℕ) × (j < others) × ((input : List Bool) → step k input ≡ other j input))
-    (lines limit another : ℕ) (gates : List GateView) (borrow : ℕ) where
+    (lines limit another : ℕ) (gates : List GateView) (start : Start) (borrow : ℕ) where
   abbrev one : Comparison
   one = record {
     program = record { params = params; steps = steps; step = step; outputs = outputs; value = value };
     circuit = record { lines = lines; limit = limit; gates = gates };
+    start = start;
     borrow = borrow;
   }
 
@@ -35,6 +38,7 @@ module _ (params : List ℕ) (steps others : ℕ) (step other : ℕ → List Boo
   two = record {
     program = record { params = params; steps = others; step = other; outputs = outputs; value = value };
     circuit = record { lines = lines; limit = another; gates = gates };
+    start = start;
     borrow = borrow;
   }
 
@@ -47,6 +51,7 @@ module _ (params : List ℕ) (steps others : ℕ) (step other : ℕ → List Boo
   moved : Holder → Holder
   moved (Step k) = Step (pick k (cases_lt k steps))
   moved (Line passed line) = Line passed line
+  moved (Wanted line) = Wanted line
 
   pick_is : (k : ℕ) (d : (k < steps) ⊎ (steps ≤ k)) → k < steps → (pick k d < others) × ((input : List Bool) → step k input ≡ other (pick k d) input)
   unfolding pick
@@ -59,6 +64,7 @@ module _ (params : List ℕ) (steps others : ℕ) (step other : ℕ → List Boo
       let is = pick_is k (cases_lt k steps) inside in
       (is.0, λ bits. is.1 (Rattle.circuit_verify.specs.Comparisons.input_bits one bits))
   holder_moved (Line passed line) inside = (inside, λ bits. refl)
+  holder_moved (Wanted line) inside = (inside, λ bits. refl)
 
   -- ---- line functions
 
@@ -113,7 +119,7 @@ module _ (params : List ℕ) (steps others : ℕ) (step other : ℕ → List Boo
   }
 
   pub verified_moved : IsVerified one → IsVerified two
-  verified_moved is = record { comparable = comparable_moved is.comparable; agrees = record { puts = is.agrees.puts } }
+  verified_moved is = record { comparable = comparable_moved is.comparable; agrees = record { size = is.agrees.size; adds = is.agrees.adds } }
 
   pub fault_moved : (most : ℕ) (fault : VerifyFault) → IsVerifyFault one most fault → IsVerifyFault two most fault
   fault_moved most (faults.Lines need) is = is
@@ -125,7 +131,7 @@ module _ (params : List ℕ) (steps others : ℕ) (step other : ℕ → List Boo
 -- ---- a tape
 
 pub said_of_tapes : SaidOfTapes
-said_of_tapes t s is c borrow limit =
+said_of_tapes t s is c start borrow limit =
     let same_value : settled_outputs s ≡ outputs_on t = fun_ext is.values in
     let made : (k : ℕ) → k < length s.nodes → (j : ℕ) × (j < writes_of t) × ((input : List Bool) → node_function s k input ≡ write_function t j input) =
     λ k low. let has = is.made k low in (has.write, has.known, has.same) in
@@ -133,13 +139,14 @@ said_of_tapes t s is c borrow limit =
     record {
       program = record { params = t.params; steps = length s.nodes; step = node_function s; outputs = outputs; value = value };
       circuit = c;
+      start = start;
       borrow = borrow;
     } in
     let there : own (length s.outputs) (settled_outputs s) ≡ own (outputs_of t) (outputs_on t) =
     ap (λ (o : ℕ). own o (settled_outputs s)) is.outputs ∙ ap (own (outputs_of t)) same_value in
     record {
       verified = λ said. verified_moved t.params (length s.nodes) (writes_of t) (node_function s) (write_function t) (outputs_of t) (outputs_on t) made
-          c.lines c.limit c.limit c.gates borrow (subst IsVerified there said);
+          c.lines c.limit c.limit c.gates start borrow (subst IsVerified there said);
       refused = λ fault said. fault_moved t.params (length s.nodes) (writes_of t) (node_function s) (write_function t) (outputs_of t) (outputs_on t) made
-          c.lines c.limit c.limit c.gates borrow limit fault (subst (λ (q : Comparison). IsVerifyFault q limit fault) there said);
+          c.lines c.limit c.limit c.gates start borrow limit fault (subst (λ (q : Comparison). IsVerifyFault q limit fault) there said);
     }

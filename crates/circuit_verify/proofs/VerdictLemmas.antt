@@ -1,5 +1,5 @@
 -- What the numbers of the lines say of a circuit.
-use Rattle.std.proofs.Common.{◌≡◌, ◌≢◌, ℕ, ◌<◌, Bool, true, false, List, ◌++◌, length, map, take, drop, get_or, refl, sym, ap, ap₂, ◌∙◌, subst, arith}
+use Rattle.std.proofs.Common.{◌≡◌, ◌≢◌, ℕ, ◌+◌, ◌<◌, Bool, true, false, List, ◌++◌, length, map, take, drop, get_or, refl, sym, ap, ap₂, ◌∙◌, subst, arith}
 use Rattle.std.proofs.Common.{IsFalse, IsTrue, length-append}
 use Rattle.std.specs.Bool.{xor}
 use Rattle.std.proofs.lemmas.Bool.{true≢false}
@@ -13,11 +13,14 @@ use Rattle.decision_diagram.specs.Functions.{AreSame, Assignment, IsLeast, exclu
 use Rattle.claim_check.specs.Variables.{AreVariables}
 use Rattle.claim_check.proofs.VariableLemmas.{assignment_at, bits_of_assignment, placed_bits}
 use Rattle.claim_check.proofs.VerdictLemmas.{least_on}
-use Rattle.mct_circuit.specs.Gates.{AreGatesOn, line_map}
+use Rattle.mct_circuit.specs.Gates.{AreGatesOn, GateView, line_map}
 use Rattle.mct_circuit.proofs.ReversalLemmas.{length-line_map}
-use Rattle.circuit_verify.specs.Comparisons.{Comparison, Agrees, AreBitsFor, inputs_in, order_in, start_on, variables_in, wanted_on, work_lines}
+use Rattle.circuit_plans.specs.Plans.{added}
+use Rattle.circuit_verify.specs.Comparisons.{Comparison, Agrees, AreBitsFor, borrowed_bits, held_by, inputs_in, order_in, output_bits}
+use Rattle.circuit_verify.specs.Comparisons.{output_variables, start_on, variables_in, wanted_on, work_lines}
 use Rattle.circuit_verify.specs.Verdicts.{DiffersFirst, HasEnoughLines, IsRight}
 use Rattle.circuit_verify.specs.inside.Numbers.{AreEnds, DifferAt, IsLeastApart, bits_in}
+use Rattle.circuit_verify.proofs.HeldLemmas.{borrowed_back, given_by, held_back, length-given_by, length-held_by}
 use Rattle.circuit_verify.proofs.NumberLemmas.{bit-at, length-bits_in, length-numbers}
 use Rattle.circuit_verify.proofs.OrderLemmas.{ordered_in}
 
@@ -26,18 +29,22 @@ use Rattle.circuit_verify.proofs.OrderLemmas.{ordered_in}
 pub length-start_on : (q : Comparison) (bits : List Bool) → HasEnoughLines q → AreBitsFor q bits → length (start_on q bits) ≡ q.circuit.lines
 length-start_on q bits enough size =
     let n : ℕ = inputs_in q in
-    let o : ℕ = q.program.outputs in
+    let v : ℕ = output_variables q.start q.program.outputs in
     let w : ℕ = work_lines q in
-    length-append (take n bits) (zeros o ++ (zeros w ++ drop n bits))
+    let behind : List Bool = drop n bits in
+    let held : List Bool = output_bits q bits in
+    let borrowed : List Bool = borrowed_bits q bits in
+    let rest : length behind ≡ v + q.borrow = length-drop n bits ∙ omega (arith, size) in
+    length-append (take n bits) (held ++ (zeros w ++ borrowed))
     ∙ omega (
       arith,
       length-take-le n bits (omega (arith, size)),
-      length-append (zeros o) (zeros w ++ drop n bits),
-      length-append (zeros w) (drop n bits),
-      length-replicate o false,
+      length-append held (zeros w ++ borrowed),
+      length-held_by q.start q.program.outputs q.borrow behind rest,
+      length-append (zeros w) borrowed,
       length-replicate w false,
-      length-drop n bits,
-      size,
+      length-drop v behind,
+      rest,
       enough,
     )
 
@@ -47,26 +54,40 @@ length-start_on q bits enough size =
 at_assignment : (q : Comparison) (bits : List Bool) → AreBitsFor q bits → bits_in q (assignment_at (ordered_in q) bits) ≡ bits
 at_assignment q bits size = bits_of_assignment (ordered_in q) bits size
 
-pub agrees : (q : Comparison) (nodes : List Triple) (now want : List ℕ) → AreEnds q nodes now want → now ≡ want → Agrees q
-agrees q nodes now want ends same = record {
-  puts = λ input borrowed size more.
-      let bits : List Bool = input ++ borrowed in
+-- the same lines by other lists
+same_lines : (gates : List GateView) (work : List Bool) (value : List Bool → List Bool) (i j h k b c : List Bool) → i ≡ j → h ≡ k → b ≡ c
+    → line_map gates (i ++ (h ++ (work ++ b))) ≡ i ++ (added h (value i) ++ (work ++ b))
+    → line_map gates (j ++ (k ++ (work ++ c))) ≡ j ++ (added k (value j) ++ (work ++ c))
+same_lines gates work value i j h k b c one two three is =
+    subst (λ (z : List Bool). line_map gates (z ++ (k ++ (work ++ c))) ≡ z ++ (added k (value z) ++ (work ++ c))) one
+    (subst (λ (z : List Bool). line_map gates (i ++ (z ++ (work ++ c))) ≡ i ++ (added z (value i) ++ (work ++ c))) two
+    (subst (λ (z : List Bool). line_map gates (i ++ (h ++ (work ++ z))) ≡ i ++ (added h (value i) ++ (work ++ z))) three is))
+
+pub agrees : (q : Comparison) (nodes : List Triple) (now want : List ℕ)
+    → ((input : List Bool) → length (q.program.value input) ≡ q.program.outputs) → AreEnds q nodes now want → now ≡ want → Agrees q
+agrees q nodes now want many ends same = record {
+  size = λ input size. many input;
+  adds = λ input held borrowed size wide may more.
+      let n : ℕ = inputs_in q in
+      let o : ℕ = q.program.outputs in
+      let v : ℕ = output_variables q.start o in
+      let given : List Bool = given_by q.start held in
+      let bits : List Bool = input ++ (given ++ borrowed) in
       let a : Assignment = assignment_at (ordered_in q) bits in
-      let are : AreBitsFor q bits = length-append input borrowed ∙ omega (arith, size, more) in
-      let front : take (inputs_in q) bits ≡ input = ap (λ (n : ℕ). take n bits) (sym size) ∙ take-append_seam input borrowed in
-      let back : drop (inputs_in q) bits ≡ borrowed = ap (λ (n : ℕ). drop n bits) (sym size) ∙ drop-append_seam input borrowed in
+      let count : length given ≡ v = length-given_by q.start held ∙ ap (output_variables q.start) wide in
+      let are : AreBitsFor q bits = length-append input (given ++ borrowed) ∙ omega (arith, size, more, length-append given borrowed, count) in
+      let front : take n bits ≡ input = ap (λ (n : ℕ). take n bits) (sym size) ∙ take-append_seam input (given ++ borrowed) in
+      let back : drop n bits ≡ given ++ borrowed = ap (λ (n : ℕ). drop n bits) (sym size) ∙ drop-append_seam input (given ++ borrowed) in
       let ended : line_map q.circuit.gates (start_on q (bits_in q a)) ≡ wanted_on q (bits_in q a) =
       sym (ends.now_are.same a) ∙ ap (λ (ns : List ℕ). map (λ n. function_of nodes n a) ns) same ∙ ends.want_are.same a in
       let here : line_map q.circuit.gates (start_on q bits) ≡ wanted_on q bits =
       subst (λ (z : List Bool). line_map q.circuit.gates (start_on q z) ≡ wanted_on q z) (at_assignment q bits are) ended in
-      let parts : (f g : List Bool) → take (inputs_in q) bits ≡ f → drop (inputs_in q) bits ≡ g
-      → line_map q.circuit.gates (f ++ (zeros q.program.outputs ++ (zeros (work_lines q) ++ g)))
-      ≡ f ++ (q.program.value f ++ (zeros (work_lines q) ++ g)) =
-      λ f g is_f is_g. subst (λ (z : List Bool). line_map q.circuit.gates (z ++ (zeros q.program.outputs ++ (zeros (work_lines q) ++ g)))
-      ≡ z ++ (q.program.value z ++ (zeros (work_lines q) ++ g))) is_f
-      (subst (λ (z : List Bool). line_map q.circuit.gates (take (inputs_in q) bits ++ (zeros q.program.outputs ++ (zeros (work_lines q) ++ z)))
-      ≡ take (inputs_in q) bits ++ (q.program.value (take (inputs_in q) bits) ++ (zeros (work_lines q) ++ z))) is_g here) in
-      record { mapped = parts input borrowed front back };
+      let outputs : output_bits q bits ≡ held = ap (held_by q.start o) back ∙ held_back q.start o held borrowed wide may in
+      let others : borrowed_bits q bits ≡ borrowed = ap (drop v) back ∙ borrowed_back q.start o held borrowed wide in
+      record {
+        mapped = same_lines q.circuit.gates (zeros (work_lines q)) q.program.value (take n bits) input (output_bits q bits) held (borrowed_bits q bits)
+            borrowed front outputs others here;
+      };
 }
 
 -- ---- where two numbers differ

@@ -7,22 +7,27 @@ use Rattle.list_facts.specs.Lists.{AreApart}
 use Rattle.revs_tape.specs.ClaimFunctions.{with_fixed}
 use Rattle.mct_circuit.specs.Gates.{line_map}
 use Rattle.circuit_verify.specs.Comparisons.{Comparison, AreBitsFor, variables_in, input_bits, order_in, start_on}
+use Rattle.circuit_verify.specs.Comparisons.{wanted_on}
 
--- what holds a bit: a step of the program, or a line after so many of the gates; after none of them an input line holds
--- its input, and a borrowed line what it came with
+-- what holds a bit: a step of the program, a line after so many of the gates, or a line as it should be behind all of
+-- them; after none of them an input line holds its input, and an output line that has a variable and a borrowed line what
+-- they came with
 pub data Holder : Type 0 where
   Step : (step : ℕ) → Holder
   Line : (gates line : ℕ) → Holder
+  Wanted : (line : ℕ) → Holder
 
 abbrev pub IsHolder : Comparison → Holder → Type 0
 IsHolder q (Step k) = k < q.program.steps
 IsHolder q (Line gates line) = (gates ≤ length q.circuit.gates) × (line < q.circuit.lines)
+IsHolder q (Wanted line) = line < q.circuit.lines
 
 -- the bit that is held
 abbrev pub held_bit : Comparison → Holder → List Bool → Bool
 held_bit q (Step k) bits = q.program.step k (input_bits q bits)
 held_bit q (Line gates line) bits =
     bit_of (line_map (take gates q.circuit.gates) (start_on q bits)) line
+held_bit q (Wanted line) bits = bit_of (wanted_on q bits) line
 
 -- a function that comes from what is held by fixing the first variables of the order to these bits
 pub record LineFunction : Type 0 where

@@ -10,7 +10,8 @@ use Rattle.claim_check.specs.Settled.{SettledView, IsSettledOf}
 use Rattle.mct_circuit.specs.Gates.{CircuitView, GateView, IsNarrow, AreNarrow, line_map}
 use Rattle.circuit_verify.specs.declared.fault.VerifyFault.{VerifyFault}
 use Rattle.circuit_verify.specs.declared.fault.VerifyFault.TheVariants as faults
-use Rattle.circuit_verify.specs.Comparisons.{Comparison, Agrees, AreBitsFor, least_lines}
+use Rattle.circuit_plans.specs.declared.roles.Start.{Start}
+use Rattle.circuit_verify.specs.Comparisons.{Comparison, Agrees, AreBitsFor, beside, least_lines}
 use Rattle.circuit_verify.specs.Comparisons.{of_settled, of_tape, order_in, start_on, wanted_on}
 use Rattle.circuit_verify.specs.LineFunctions.{HasMore}
 
@@ -87,15 +88,16 @@ abbrev pub ComparisonsEndInOneWay : Type 0
 ComparisonsEndInOneWay = (q : Comparison) → EndsInOneWay q
 
 -- what is said of the settled graph of a tape is said of the tape
-pub record IsSaidOfTape (t : TapeView) (s : SettledView) (c : CircuitView) (borrow limit : ℕ)
-    : Type 0 where
-  pub verified : IsVerified (record { program = of_settled t.params s; circuit = c; borrow = borrow })
-      → IsVerified (record { program = of_tape t; circuit = c; borrow = borrow })
+pub record IsSaidOfTape (t : TapeView) (s : SettledView) (c : CircuitView) (start : Start)
+    (borrow limit : ℕ) : Type 0 where
+  pub verified : IsVerified (beside (of_settled t.params s) c start borrow)
+      → IsVerified (beside (of_tape t) c start borrow)
   pub refused : (fault : VerifyFault)
-      → IsVerifyFault (record { program = of_settled t.params s; circuit = c; borrow = borrow }) limit fault
-      → IsVerifyFault (record { program = of_tape t; circuit = c; borrow = borrow }) limit fault
+      → IsVerifyFault (beside (of_settled t.params s) c start borrow) limit fault
+      → IsVerifyFault (beside (of_tape t) c start borrow) limit fault
 
 -- The law: what is said of settled graphs is said of their tapes, whose steps are the writes.
 abbrev pub SaidOfTapes : Type 0
 SaidOfTapes = (t : TapeView) (s : SettledView) → IsSettledOf t s
-    → (c : CircuitView) (borrow limit : ℕ) → IsSaidOfTape t s c borrow limit
+    → (c : CircuitView) (start : Start) (borrow limit : ℕ)
+    → IsSaidOfTape t s c start borrow limit

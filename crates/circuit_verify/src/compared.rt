@@ -1,8 +1,10 @@
 // A circuit beside the settled graph that it is to compute.
-ghost use Rattle.std.specs.Prelude.{◌≡◌, ◌+◌, sum};
-ghost use Rattle.circuit_verify.specs.Comparisons.{variables_in, work_lines};
+ghost use Rattle.std.specs.Prelude.{◌≡◌, ◌≤◌, ◌+◌, length, sum};
+ghost use Rattle.circuit_verify.specs.Comparisons.{inputs_in, output_variables, variables_in};
+ghost use Rattle.circuit_verify.specs.Comparisons.{work_lines};
 ghost use Rattle.circuit_verify.specs.inside.Compared.{IsReady, comparison, ComparedView};
 
+use circuit_plans::Start;
 use claim_check::Settled;
 use mct_circuit::Circuit;
 use std::marker::Model;
@@ -14,6 +16,7 @@ pub struct Compared<'s> {
     pub graph: &'s Settled,
     pub params: &'s [u32],
     pub circuit: &'s Circuit,
+    pub start: Start,
     pub borrow: u32,
 }
 
@@ -24,6 +27,7 @@ impl<'s> Model for Compared<'s> {
       graph = c.graph.now;
       params = c.params.now;
       circuit = c.circuit.now;
+      start = c.start;
       borrow = c.borrow;
     } };
 
@@ -31,24 +35,58 @@ impl<'s> Model for Compared<'s> {
       graph = c.graph.now;
       params = c.params.now;
       circuit = c.circuit.now;
+      start = c.start;
       borrow = c.borrow;
     }) };
 }
 
 impl<'s> Compared<'s> {
-    // The number of inputs and borrowed lines.
+    // The number of inputs, of output lines that have variables, and of borrowed lines.
     pub fn variables(&self) -> u32
         ensures count { result ≡ variables_in (comparison self.now) }
         ensures ready { IsReady self.now }
     {
-        self.graph.inputs() + self.borrow
+        self.graph.inputs() + self.output_variables() + self.borrow
     }
 
-    // How many lines are work lines.
+    // How many output lines have variables.
+    pub fn output_variables(&self) -> u32
+        ensures count { result
+            ≡ output_variables self.now.start (length self.now.graph.outputs) }
+        ensures few { result ≤ length self.now.graph.outputs }
+    {
+        match self.start {
+            Start::Any => self.outputs(),
+            Start::Zero => 0,
+        }
+    }
+
+    // What the output lines may hold before the gates.
+    pub fn start(&self) -> Start
+        ensures { result ≡ self.now.start }
+    {
+        self.start
+    }
+
+    // How many lines are input lines.
+    pub fn inputs(&self) -> u32
+        ensures { result ≡ inputs_in (comparison self.now) }
+    {
+        self.graph.inputs()
+    }
+
+    // How many are output lines.
+    pub fn outputs(&self) -> u32
+        ensures { result ≡ length self.now.graph.outputs }
+    {
+        self.graph.outputs().len() as u32
+    }
+
+    // How many are work lines.
     pub fn work(&self) -> u32
         ensures { result ≡ work_lines (comparison self.now) }
     {
-        let used = self.graph.inputs() + self.graph.outputs().len() as u32 + self.borrow;
+        let used = self.graph.inputs() + self.outputs() + self.borrow;
         self.circuit.lines() - used
     }
 }

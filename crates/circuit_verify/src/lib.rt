@@ -11,6 +11,7 @@ mod gates;
 mod judging;
 mod law;
 mod nodes;
+mod outputs;
 mod places;
 mod verifying;
 mod walking;

@@ -14,7 +14,8 @@ use decision_diagram::{Dd, Diagram};
 use revc_base::Memory;
 use std::alloc::Global;
 
-// The variable of each input and then of each borrowed line.
+// The variable of each input, then of each output line that has one, and then of each borrowed
+// line.
 pub fn all_variables(alloc: Global, compared: &Compared) -> Result<Vec<u32>, Memory>
     ensures { IfOk result (λ all. AreVariables (variables_in (comparison compared.now))
         (order_in (comparison compared.now)) all.items) }
@@ -27,7 +28,7 @@ pub fn all_variables(alloc: Global, compared: &Compared) -> Result<Vec<u32>, Mem
     Ok(all)
 }
 
-// The number of the bit of each input and then of each borrowed line.
+// The number of the bit of each variable, in the same order.
 pub fn number_bits(
     alloc: Global,
     diagram: &mut Diagram,

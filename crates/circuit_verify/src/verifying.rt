@@ -2,7 +2,7 @@
 ghost use Rattle.std.specs.Prelude.{◌≡◌, ◌≤◌, sum, IfErr, OnOk};
 ghost use Rattle.revs_tape.specs.Tapes.{AreWidths};
 ghost use Rattle.circuit_plans.specs.declared.plan.TheConstants.{MOST_BORROWED};
-ghost use Rattle.circuit_verify.specs.Comparisons.{of_settled};
+ghost use Rattle.circuit_verify.specs.Comparisons.{beside, of_settled};
 ghost use Rattle.circuit_verify.specs.Verdicts.{IsVerified, IsVerifyFault};
 ghost use Rattle.circuit_verify.specs.inside.Compared.{comparison};
 
@@ -12,19 +12,21 @@ use crate::gates::first_wide;
 use crate::judging::judge;
 use crate::places::all_variables;
 use crate::walking::ends_of;
+use circuit_plans::Start;
 use claim_check::Settled;
 use decision_diagram::Diagram;
 use mct_circuit::Circuit;
 use std::alloc::Global;
 
 /// Verifies that a circuit computes the outputs of a settled graph, whose inputs are the bits of
-/// parameters of these widths: on every input, with 0 on the output lines and the work lines and
-/// whatever the last `borrow` lines hold, the outputs come to stand on the output lines, and every
-/// other line is left as it was. The lines are those of the inputs, then those of the outputs, then
-/// the work lines, then the borrowed ones.
+/// parameters of these widths: on every input, whatever the output lines hold that `start` lets
+/// them hold, with 0 on the work lines and whatever the last `borrow` lines hold, the outputs are
+/// added to the output lines, and every other line is left as it was. The lines are those of the
+/// inputs, then those of the outputs, then the work lines, then the borrowed ones.
 ///
 /// `limit` bounds the inner nodes of the decision diagram of all functions that the nodes and the
-/// lines come to hold. One gate is one call of the diagram.
+/// lines come to hold, and that the output lines should hold. One gate is one call of the diagram,
+/// and so is one output.
 ///
 /// # Errors
 ///
@@ -37,6 +39,7 @@ pub fn verify(
     s: &Settled,
     params: &[u32],
     c: &Circuit,
+    start: Start,
     borrow: u32,
     limit: u32,
 ) -> Result<(), VerifyFault>
@@ -44,16 +47,10 @@ pub fn verify(
     requires inputs { sum params.now ≡ s.now.inputs }
     requires borrow { borrow ≤ MOST_BORROWED }
     requires some { 1 ≤ limit }
-    ensures verified { OnOk result (IsVerified (record {
-      program = of_settled params.now s.now;
-      circuit = c.now;
-      borrow = borrow;
-    })) }
-    ensures refused { IfErr result (IsVerifyFault (record {
-      program = of_settled params.now s.now;
-      circuit = c.now;
-      borrow = borrow;
-    }) limit) }
+    ensures verified { OnOk result (IsVerified
+        (beside (of_settled params.now s.now) c.now start borrow)) }
+    ensures refused { IfErr result (IsVerifyFault
+        (beside (of_settled params.now s.now) c.now start borrow) limit) }
 {
     let need = s.inputs() + s.outputs().len() as u32 + borrow;
     if c.lines() < need {
@@ -66,6 +63,7 @@ pub fn verify(
         graph: s,
         params,
         circuit: c,
+        start,
         borrow,
     };
     compare(alloc, &compared, limit)

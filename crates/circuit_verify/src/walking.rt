@@ -1,5 +1,5 @@
 // The numbers of the lines, gate by gate.
-ghost use Rattle.std.specs.Prelude.{◌≡◌, ◌++◌, ◌<◌, ◌≤◌, length, take, drop, replicate, IfErr, IfOk};
+ghost use Rattle.std.specs.Prelude.{◌≡◌, ◌++◌, ◌<◌, length, IfErr, IfOk};
 ghost use Rattle.std.specs.Prelude.{OnOk, IsErrOf};
 ghost use Rattle.std.specs.List.{AllByRecursion};
 ghost use Rattle.decision_diagram.specs.Growth.{Computes};
@@ -8,7 +8,8 @@ ghost use Rattle.mct_circuit.specs.Gates.{IsGateOn, IsNarrow, line_map};
 ghost use Rattle.circuit_verify.specs.Comparisons.{start_on};
 ghost use Rattle.circuit_verify.specs.Verdicts.{IsVerifyFault};
 ghost use Rattle.circuit_verify.specs.inside.Compared.{comparison};
-ghost use Rattle.circuit_verify.specs.inside.Numbers.{AreEnds, AreKnown, AreNumbersOf, GrowsBy};
+ghost use Rattle.circuit_verify.specs.inside.Numbers.{AreEnds, AreKnown, AreLaid};
+ghost use Rattle.circuit_verify.specs.inside.Numbers.{AreNumbersOf, GrowsBy};
 ghost use Rattle.circuit_verify.specs.inside.Numbers.{HoldsLines, control_numbers};
 ghost use Rattle.circuit_verify.specs.inside.Numbers.{line_function_of};
 ghost use Rattle.claim_check.specs.Variables.{AreVariables};
@@ -16,7 +17,7 @@ ghost use Rattle.circuit_verify.specs.Comparisons.{order_in, variables_in};
 
 use crate::VerifyFault;
 use crate::compared::Compared;
-use crate::nodes::{number_nodes, number_outputs};
+use crate::outputs::output_numbers;
 use crate::places::number_bits;
 use decision_diagram::{Dd, DdFault, Diagram};
 use mct_circuit::{Control, Gate, Op};
@@ -29,26 +30,41 @@ pub struct Ends {
     pub want: Vec<Dd>,
 }
 
-// The numbers of input bits, of output lines, of work lines that hold `never`, and of borrowed
-// bits.
+// The numbers of all lines, where the variables and the output lines have theirs.
 fn laid(
     alloc: Global,
+    diagram: &Diagram,
+    compared: &Compared,
     bits: &[Dd],
-    inputs: u32,
     outputs: &[Dd],
-    work: u32,
-    never: Dd,
 ) -> Result<Vec<Dd>, AllocError>
-    requires { inputs ≤ length bits.now }
-    ensures { IfOk result (λ lines. lines.items ≡ take inputs bits.now ++ (outputs.now
-        ++ (replicate work never ++ drop inputs bits.now))) }
+    requires { AreNumbersOf (comparison compared.now) diagram.now.nodes bits.now (λ bits. bits) }
+    ensures { IfOk result (λ lines. AreLaid (comparison compared.now) diagram.now.nodes
+        outputs.now lines.items) }
 {
-    let (input, borrowed) = bits.split_at(inputs as usize);
-    let idle = vec![in alloc; never; work as usize]?;
+    let _ = compared.variables(); // shows what is known of both
+    let (input, behind) = bits.split_at(compared.inputs() as usize);
+    let (_, borrowed) = behind.split_at(compared.output_variables() as usize);
+    let never = diagram.truth(false);
+    let idle = vec![in alloc; never; compared.work() as usize]?;
+    joined(alloc, input, outputs, &idle, borrowed)
+}
+
+// Four lists of numbers, one behind another.
+fn joined(
+    alloc: Global,
+    input: &[Dd],
+    outputs: &[Dd],
+    work: &[Dd],
+    borrowed: &[Dd],
+) -> Result<Vec<Dd>, AllocError>
+    ensures { IfOk result (λ lines. lines.items
+        ≡ input.now ++ (outputs.now ++ (work.now ++ borrowed.now))) }
+{
     let mut lines = Vec::new(alloc);
     lines.extend_from_slice(input)?;
     lines.extend_from_slice(outputs)?;
-    lines.extend_from_slice(&idle)?;
+    lines.extend_from_slice(work)?;
     lines.extend_from_slice(borrowed)?;
     Ok(lines)
 }
@@ -132,15 +148,11 @@ pub fn ends_of(
         ends.now.items ends.want.items) }
     ensures refused { IfErr result (IsVerifyFault (comparison compared.now) diagram.new.limit) }
 {
-    let inputs = compared.graph.inputs();
-    let work = compared.work();
+    let _ = compared.variables(); // shows what is known of both
     let bits = number_bits(alloc, diagram, compared, variables)?;
-    let nodes = number_nodes(alloc, diagram, compared, &bits)?;
-    let never = diagram.truth(false);
-    let outputs = number_outputs(alloc, diagram, compared, &bits, &nodes)?;
-    let blank = vec![in alloc; never; outputs.len()]?;
-    let want = laid(alloc, &bits, inputs, &outputs, work, never)?;
-    let mut now = laid(alloc, &bits, inputs, &blank, work, never)?;
+    let outputs = output_numbers(alloc, diagram, compared, &bits)?;
+    let want = laid(alloc, diagram, compared, &bits, &outputs.wanted)?;
+    let mut now = laid(alloc, diagram, compared, &bits, &outputs.held)?;
     walk(diagram, compared, &mut now)?;
     Ok(Ends { now, want })
 }

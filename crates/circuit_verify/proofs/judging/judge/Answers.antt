@@ -1,7 +1,8 @@
 use Rattle.std.proofs.Common.{◌≡◌, ◌<◌, ℕ, List, get_or, length, sym, subst, ap, arith, ◌∙◌}
-use Rattle.std.proofs.lemmas.List.{get_or_read}
+use Rattle.std.proofs.lemmas.List.{get_or_read, length-map}
 use Rattle.decision_diagram.specs.Diagrams.{IsNumber, function_of}
 use Rattle.decision_diagram.specs.Functions.{exclusive_or}
+use Rattle.claim_check.specs.Settled.{settled_value}
 use Rattle.circuit_verify.specs.inside.Compared.{comparison}
 use Rattle.circuit_verify.specs.inside.Numbers.{DifferAt, IsLeastApart}
 use Rattle.circuit_verify.proofs.NumberLemmas.{known-at}
@@ -46,7 +47,8 @@ first_difference-requires-clause-few c =
 pub returns-in_default-clause-verified : goal.returns-in_default-clause-verified
 returns-in_default-clause-verified c = record {
   comparable = c.variables.ensures.ready.comparable;
-  agrees = agrees (comparison c.args.compared.now) c.args.diagram.now.nodes c.args.ends.now.now.items c.args.ends.now.want.items c.requires.ends
+  agrees = agrees (comparison c.args.compared.now) c.args.diagram.now.nodes c.args.ends.now.now.items c.args.ends.now.want.items
+      (λ input. length-map c.args.compared.now.graph.outputs (settled_value c.args.compared.now.graph input)) c.requires.ends
       (sym c.deref.ensures.value ∙ c.in_default.ensures ∙ c.deref-2.ensures.value);
 }
 

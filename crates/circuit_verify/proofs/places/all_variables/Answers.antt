@@ -1,7 +1,8 @@
 use Rattle.std.proofs.Common.{ap, sum, subst, sym, arith, ◌∙◌}
 use Rattle.revs_tape.specs.VariableOrders.{variable_order}
 use Rattle.claim_check.specs.Variables.{AreVariables}
-use Rattle.circuit_verify.specs.inside.Compared.{ComparedView}
+use Rattle.circuit_verify.specs.Comparisons.{variables_behind}
+use Rattle.circuit_verify.specs.inside.Compared.{ComparedView, comparison}
 use Rattle.circuit_verify.proofs.OrderLemmas.{variable_more, variables_are, variables_none}
 use Rattle.circuit_verify.proofs.places.all_variables.Goals as goal
 
@@ -21,7 +22,7 @@ returns c =
     let inputs = c.inputs-variable.ensures.inputs ∙ ap (λ (w : ComparedView). w.graph.inputs) c.compared.view_is ∙ sym ready.inputs in
     let own = subst (λ (w : ComparedView). AreVariables (sum w.params) (variable_order w.params) c.in_ok-all.all.items) c.compared.view_is
     c.in_ok-all.ensures in
-    variables_are v.params c.inputs-variable.result v.borrow c.loop-variable.variable c.in_ok-all.all.items c.loop-variable.all.items inputs
+    variables_are v.params c.inputs-variable.result (variables_behind (comparison v)) c.loop-variable.variable c.in_ok-all.all.items c.loop-variable.all.items inputs
     (omega (
       arith,
       inputs,
