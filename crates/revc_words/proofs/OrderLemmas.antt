@@ -35,7 +35,7 @@ use Rattle.revc_words.specs.Words.{joined, parted, positional, IsOneOf, first_wo
 use Rattle.revc_words.specs.inside.Parsing.{Texts, app_for, bits_for, command_named, kind_for, kind_of, number_for, number_of, number_word, order_by, order_for}
 use Rattle.revc_words.specs.inside.Parsing.{order_of_texts, parsed, takes_any, takes_count, takes_factor, texts_by, texts_in, value_or, values_of}
 use Rattle.revc_words.specs.inside.Parsing.{with_factor}
-use Rattle.revc_words.proofs.ValueLemmas.{Rule, plan_rule, lines_rule, gates_rule, borrow_rule, nodes_rule, format_rule, by_rule, write_rule}
+use Rattle.revc_words.proofs.ValueLemmas.{Rule, plan_rule, lines_rule, gates_rule, borrow_rule, nodes_rule, start_rule, format_rule, by_rule, write_rule}
 use Rattle.revc_words.proofs.ValueLemmas.{number_says, number_found, kind_named, kind_says, right, kept, text_is_no_option}
 use Rattle.revc_words.proofs.WalkLemmas.{by_test, is_one_of, filled_app, run, clap_says, AreTexts}
 use Rattle.revc_words.proofs.SaidLemmas.{Said, said, read, reached, parsed as ends, Fits, AreNew, AreOnce, AreValues, IsNever}
@@ -275,6 +275,7 @@ same_texts rows given h = λ i. record {
   gates = h (codes "gates") refl i;
   borrow = h (codes "borrow") refl i;
   nodes = h (codes "nodes") refl i;
+  outputs = h (codes "outputs") refl i;
   format = h (codes "format") refl i;
   from = h (codes "from") refl i;
   to = h (codes "to") refl i;
@@ -317,6 +318,7 @@ record GiveAll (texts : Texts) (v : Values) : Type 0 where
   gates : Gives gates_rule texts.gates v.gates
   borrow : Gives borrow_rule texts.borrow v.borrow
   nodes : Gives nodes_rule texts.nodes v.nodes
+  outputs : Gives start_rule texts.outputs v.outputs
   format : Gives (format_rule Real) texts.format v.format
   from : Gives (format_rule Real) texts.from v.from
   to : Gives (format_rule Qasm) texts.to v.to
@@ -330,7 +332,8 @@ values_say texts v e =
     let gates = and_says _ _ v lines.2 in
     let borrow = and_says _ _ v gates.2 in
     let nodes = and_says _ _ v borrow.2 in
-    let format = and_says _ _ v nodes.2 in
+    let outputs = and_says _ _ v nodes.2 in
+    let format = and_says _ _ v outputs.2 in
     let from = and_says _ _ v format.2 in
     let to = and_says _ _ v from.2 in
     let by = and_says _ _ v to.2 in
@@ -342,6 +345,7 @@ values_say texts v e =
       gates = gates.1 ∙ ap (λ (all : Values). Some all.gates) same;
       borrow = borrow.1 ∙ ap (λ (all : Values). Some all.borrow) same;
       nodes = nodes.1 ∙ ap (λ (all : Values). Some all.nodes) same;
+      outputs = outputs.1 ∙ ap (λ (all : Values). Some all.outputs) same;
       format = format.1 ∙ ap (λ (all : Values). Some all.format) same;
       from = from.1 ∙ ap (λ (all : Values). Some all.from) same;
       to = to.1 ∙ ap (λ (all : Values). Some all.to) same;
@@ -407,6 +411,7 @@ order_is words behind command what order named found once e =
       gates = right gates_rule (value_of (codes "gates") what.given) values.gates all.gates;
       borrow = right borrow_rule (value_of (codes "borrow") what.given) values.borrow all.borrow;
       nodes = right nodes_rule (value_of (codes "nodes") what.given) values.nodes all.nodes;
+      outputs = right start_rule (value_of (codes "outputs") what.given) values.outputs all.outputs;
       format = right (format_rule Real) (value_of (codes "format") what.given) values.format all.format;
       from = right (format_rule Real) (value_of (codes "from") what.given) values.from all.from;
       to = right (format_rule Qasm) (value_of (codes "to") what.given) values.to all.to;
@@ -431,6 +436,7 @@ said_so words order is =
       gates = order.gates;
       borrow = order.borrow;
       nodes = order.nodes;
+      outputs = order.outputs;
       format = order.format;
       from = order.from;
       to = order.to;
@@ -443,6 +449,7 @@ said_so words order is =
       kept gates_rule (value_of (codes "gates") is.given) order.gates is.gates,
       kept borrow_rule (value_of (codes "borrow") is.given) order.borrow is.borrow,
       kept nodes_rule (value_of (codes "nodes") is.given) order.nodes is.nodes,
+      kept start_rule (value_of (codes "outputs") is.given) order.outputs is.outputs,
       kept (format_rule Real) (value_of (codes "format") is.given) order.format is.format,
       kept (format_rule Real) (value_of (codes "from") is.given) order.from is.from,
       kept (format_rule Qasm) (value_of (codes "to") is.given) order.to is.to,
@@ -508,8 +515,8 @@ among P (option ∷ options) name all (inr rest) = among P options name all.1 re
 -- the names of all options
 abbrev all_options : List (List ℕ)
 all_options =
-    codes "plan" ∷ codes "lines" ∷ codes "gates" ∷ codes "borrow" ∷ codes "nodes" ∷ codes "format" ∷ codes "from" ∷ codes "to"
-    ∷ codes "by" ∷ codes "write" ∷ []
+    codes "plan" ∷ codes "lines" ∷ codes "gates" ∷ codes "borrow" ∷ codes "nodes" ∷ codes "outputs" ∷ codes "format" ∷ codes "from"
+    ∷ codes "to" ∷ codes "by" ∷ codes "write" ∷ []
 
 known_options : (command : Command) → list_all (is_one_of all_options) (options_of command) ≡ true
 known_options Compile = refl
@@ -524,7 +531,7 @@ each_of P all (option ∷ options) each e = by_test (is_one_of all option)
 safe : (words : List (List ℕ)) (order : OrderView) → (is : IsOrder words order) → AllByRecursion (IsSafe is.given) (options_of order.command)
 safe words order is =
     each_of (IsSafe is.given) all_options (options_of order.command)
-    (plan, (lines, (gates, (borrow, (nodes, (format, (from, (to, (by, (write, tt)))))))))) (known_options order.command)
+    (plan, (lines, (gates, (borrow, (nodes, (outputs, (format, (from, (to, (by, (write, tt))))))))))) (known_options order.command)
   where
     plan : IsSafe is.given (codes "plan")
     plan = record { each = λ word e. text_is_no_option plan_rule (value_of (codes "plan") is.given) order.plan word is.plan e }
@@ -540,6 +547,9 @@ safe words order is =
 
     nodes : IsSafe is.given (codes "nodes")
     nodes = record { each = λ word e. text_is_no_option nodes_rule (value_of (codes "nodes") is.given) order.nodes word is.nodes e }
+
+    outputs : IsSafe is.given (codes "outputs")
+    outputs = record { each = λ word e. text_is_no_option start_rule (value_of (codes "outputs") is.given) order.outputs word is.outputs e }
 
     format : IsSafe is.given (codes "format")
     format = record { each = λ word e. text_is_no_option (format_rule Real) (value_of (codes "format") is.given) order.format word is.format e }

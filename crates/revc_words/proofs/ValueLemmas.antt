@@ -17,10 +17,12 @@ use Rattle.circuit_plans.specs.declared.choice.How.TheVariants.{Auto, Compact, E
 use Rattle.revc_words.specs.declared.limits.TheConstants.{MOST_DIGITS, MOST_NODES, USUAL_LINES, USUAL_GATES, USUAL_NODES}
 use Rattle.revc_words.specs.declared.order.Format.{Format}
 use Rattle.revc_words.specs.declared.order.Format.TheVariants.{Real, Qasm}
+use Rattle.circuit_plans.specs.declared.roles.Start.{Start}
+use Rattle.circuit_plans.specs.declared.roles.Start.TheVariants.{Any, Zero}
 use Rattle.revc_words.specs.declared.order.Write.{Write}
 use Rattle.revc_words.specs.declared.order.Write.TheVariants as writes
-use Rattle.revc_words.specs.Words.{IsNumberIn, plan_word, format_word, kind_word, write_word, is_option}
-use Rattle.revc_words.specs.inside.Parsing.{first_with, is_number_in, number_of, plan_of, format_of, kind_of, write_of, value_or}
+use Rattle.revc_words.specs.Words.{IsNumberIn, plan_word, start_word, format_word, kind_word, write_word, is_option}
+use Rattle.revc_words.specs.inside.Parsing.{first_with, is_number_in, number_of, plan_of, start_of, format_of, kind_of, write_of, value_or}
 
 digits : IsNumeralModel (λ ds. all_ascii_digits ds ≡ true) (digits_value 10)
 digits = numerals_by_value _ tells_all_ascii_digits
@@ -132,6 +134,10 @@ pub format_named : (format : Format) → format_of (format_word format) ≡ Some
 format_named Real = refl
 format_named Qasm = refl
 
+pub start_named : (start : Start) → start_of (start_word start) ≡ Some start
+start_named Any = refl
+start_named Zero = refl
+
 pub write_named : (write : Write) → write_of (write_word write) ≡ Some write
 write_named writes.Program = refl
 write_named writes.Real = refl
@@ -179,6 +185,20 @@ plan_is_no_option Pebble = refl
 pub format_is_no_option : (format : Format) → is_option (format_word format) ≡ false
 format_is_no_option Real = refl
 format_is_no_option Qasm = refl
+
+pub start_is_no_option : (start : Start) → is_option (start_word start) ≡ false
+start_is_no_option Any = refl
+start_is_no_option Zero = refl
+
+abbrev pub start_rule : Rule Start
+start_rule = record {
+  value = start_of;
+  Writes = λ word start. word ≡ start_word start;
+  usual = Zero;
+  says = first_says start_word (Any ∷ Zero ∷ []);
+  found = λ word start is. ap start_of is ∙ start_named start;
+  no_option = λ word start is. ap is_option is ∙ start_is_no_option start;
+}
 
 pub write_is_no_option : (write : Write) → is_option (write_word write) ≡ false
 write_is_no_option writes.Program = refl

@@ -42,7 +42,7 @@ spelling_of Bench = record {
 }
 spelling_of Verify = record {
   name = codes "verify";
-  options = codes "from" ∷ codes "nodes" ∷ codes "borrow" ∷ [];
+  options = codes "from" ∷ codes "nodes" ∷ codes "borrow" ∷ codes "outputs" ∷ [];
   takes = Nothing;
 }
 spelling_of Arith = record {

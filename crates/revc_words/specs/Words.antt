@@ -12,6 +12,8 @@ use Rattle.arith_templates.specs.declared.limits.TheConstants.{MOST_FACTOR}
 use Rattle.circuit_plans.specs.declared.plan.TheConstants.{MOST_LINES, MOST_GATES, MOST_BORROWED}
 use Rattle.circuit_plans.specs.declared.choice.How.{How}
 use Rattle.circuit_plans.specs.declared.choice.How.TheVariants.{Auto, Compact, Eager, Lean, Pebble}
+use Rattle.circuit_plans.specs.declared.roles.Start.{Start}
+use Rattle.circuit_plans.specs.declared.roles.Start.TheVariants.{Any, Zero}
 use Rattle.program_gen.specs.declared.adder.TheConstants.{MOST_BITS}
 use Rattle.revc_words.specs.declared.limits.TheConstants.{MOST_DIGITS, MOST_NODES, USUAL_LINES, USUAL_GATES, USUAL_NODES}
 use Rattle.revc_words.specs.Commands.{name_of, options_of, takes_of}
@@ -32,9 +34,10 @@ words_of words = map string_bytes words
 -- ---- orders
 
 -- a command, the plans that it tries, the most lines and gates of its circuit, how many lines it
--- borrows, the most nodes of its diagrams, the format of the circuit of a program, the formats
--- that `convert` and `tidy` read and write, what a program computes of numbers, the factor by which
--- it multiplies, what is written of it, how many bits its numbers have, and words of bits
+-- borrows, the most nodes of its diagrams, what its output lines may hold at the start, the format
+-- of the circuit of a program, the formats that `convert` and `tidy` read and write, what a program
+-- computes of numbers, the factor by which it multiplies, what is written of it, how many bits its
+-- numbers have, and words of bits
 pub record OrderView : Type 0 where
   pub command : Command
   pub plan : How
@@ -42,6 +45,7 @@ pub record OrderView : Type 0 where
   pub gates : ℕ
   pub borrow : ℕ
   pub nodes : ℕ
+  pub outputs : Start
   pub format : Format
   pub from : Format
   pub to : Format
@@ -60,6 +64,7 @@ order_with command values kind number bits = record {
   gates = values.gates;
   borrow = values.borrow;
   nodes = values.nodes;
+  outputs = values.outputs;
   format = values.format;
   from = values.from;
   to = values.to;
@@ -144,6 +149,11 @@ plan_word Eager = codes "eager"
 plan_word Lean = codes "lean"
 plan_word Pebble = codes "pebble"
 
+-- the word for what output lines may hold at the start
+abbrev pub start_word : Start → List ℕ
+start_word Any = codes "any"
+start_word Zero = codes "zero"
+
 -- the word for a format
 abbrev pub format_word : Format → List ℕ
 format_word Real = codes "real"
@@ -193,6 +203,10 @@ AreBorrowed given borrow = IsCounted (codes "borrow") 0 MOST_BORROWED 0 given bo
 -- the most nodes: those that are given, from 1 on, or the usual number
 abbrev pub AreNodes : List Setting → ℕ → Type 0
 AreNodes given nodes = IsCounted (codes "nodes") 1 MOST_NODES USUAL_NODES given nodes
+
+-- what the output lines may hold at the start: what is given, or zeros
+abbrev pub IsStart : List Setting → Start → Type 0
+IsStart given start = IsChosen (codes "outputs") start_word Zero given start
 
 -- the format that is written: the one given, or `.real`
 abbrev pub IsFormat : List Setting → Format → Type 0
@@ -282,6 +296,7 @@ pub record IsOrder (words : List (List ℕ)) (order : OrderView) : Type 0 where
   pub gates : AreGates given order.gates
   pub borrow : AreBorrowed given order.borrow
   pub nodes : AreNodes given order.nodes
+  pub outputs : IsStart given order.outputs
   pub format : IsFormat given order.format
   pub from : IsFrom given order.from
   pub to : IsTo given order.to

@@ -96,7 +96,11 @@ impl Command {
                 &["plan", "lines", "gates", "borrow", "nodes"],
                 Positional::Number,
             ),
-            Command::Verify => spelled("verify", &["from", "nodes", "borrow"], Positional::Nothing),
+            Command::Verify => spelled(
+                "verify",
+                &["from", "nodes", "borrow", "outputs"],
+                Positional::Nothing,
+            ),
             Command::Arith => spelled("arith", &["by", "write"], Positional::KindAndNumber),
         }
     }

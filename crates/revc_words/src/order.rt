@@ -4,7 +4,7 @@ ghost use Rattle.revc_words.specs.Words.{first_word, order_of};
 
 use crate::{Command, USUAL_GATES, USUAL_LINES, USUAL_NODES};
 use arith_templates::Kind;
-use circuit_plans::How;
+use circuit_plans::{How, Start};
 
 /// A format of circuit files.
 #[derive(Clone, Copy, PartialEq, Eq)]
@@ -39,6 +39,8 @@ pub struct Values {
     pub borrow: u32,
     /// The most inner nodes of the diagrams, 1 to 1,000,000.
     pub nodes: u32,
+    /// What the output lines of a circuit may hold at the start.
+    pub outputs: Start,
     /// The format of the circuit of a program.
     pub format: Format,
     /// The format of the circuit that is read.
@@ -59,6 +61,7 @@ impl Values {
         gates: USUAL_GATES,
         borrow: 0,
         nodes: USUAL_NODES,
+        outputs: Start::Zero,
         format: Format::Real,
         from: Format::Real,
         to: Format::Qasm,

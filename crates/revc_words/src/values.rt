@@ -3,11 +3,11 @@ ghost use Rattle.std.specs.Prelude.{◌≡◌, ℕ, List, Option};
 ghost use Rattle.clap.specs.Words.{first_of, found_of, rows_of};
 ghost use Rattle.revc_words.specs.inside.Parsing.{kind_of, number_of, text_at};
 ghost use Rattle.revc_words.specs.inside.Parsing.{texts_in, value_or, values_of, plan_of};
-ghost use Rattle.revc_words.specs.inside.Parsing.{format_of, write_of};
+ghost use Rattle.revc_words.specs.inside.Parsing.{format_of, start_of, write_of};
 
 use crate::{Format, MOST_DIGITS, MOST_NODES, Values, Write};
 use arith_templates::{Kind, MOST_FACTOR};
-use circuit_plans::{How, MOST_BORROWED, MOST_GATES, MOST_LINES};
+use circuit_plans::{How, MOST_BORROWED, MOST_GATES, MOST_LINES, Start};
 use clap::ArgMatches;
 
 /// The values of the texts that are given: what has no text has its usual value.
@@ -23,6 +23,7 @@ pub fn values_given(matches: &ArgMatches) -> Option<Values>
         gates: u64::from(gates?),
         borrow: number_or(text(matches, "borrow"), 0, MOST_BORROWED, usual.borrow)?,
         nodes: number_or(text(matches, "nodes"), 1, MOST_NODES, usual.nodes)?,
+        outputs: chosen(text(matches, "outputs"), usual.outputs)?,
         format: chosen(text(matches, "format"), usual.format)?,
         from: chosen(text(matches, "from"), usual.from)?,
         to: chosen(text(matches, "to"), usual.to)?,
@@ -92,6 +93,18 @@ impl Choice for How {
             "eager" => Some(How::Eager),
             "lean" => Some(How::Lean),
             "pebble" => Some(How::Pebble),
+            _ => None,
+        }
+    }
+}
+
+impl Choice for Start {
+    ghost choice = { start_of };
+
+    fn named(name: &str) -> Option<Start> {
+        match name {
+            "any" => Some(Start::Any),
+            "zero" => Some(Start::Zero),
             _ => None,
         }
     }

@@ -13,6 +13,8 @@ use Rattle.arith_templates.specs.declared.limits.TheConstants.{MOST_FACTOR}
 use Rattle.circuit_plans.specs.declared.plan.TheConstants.{MOST_LINES, MOST_GATES, MOST_BORROWED}
 use Rattle.circuit_plans.specs.declared.choice.How.{How}
 use Rattle.circuit_plans.specs.declared.choice.How.TheVariants.{Auto, Compact, Eager, Lean, Pebble}
+use Rattle.circuit_plans.specs.declared.roles.Start.{Start}
+use Rattle.circuit_plans.specs.declared.roles.Start.TheVariants.{Any, Zero}
 use Rattle.program_gen.specs.declared.adder.TheConstants.{MOST_BITS}
 use Rattle.revc_words.specs.declared.limits.TheConstants.{MOST_DIGITS, MOST_NODES, USUAL_LINES, USUAL_GATES, USUAL_NODES}
 use Rattle.revc_words.specs.Commands.{name_of, options_of, takes_of}
@@ -25,7 +27,7 @@ use Rattle.revc_words.specs.declared.order.Format.TheVariants.{Real, Qasm}
 use Rattle.revc_words.specs.declared.order.Write.{Write}
 use Rattle.revc_words.specs.declared.order.Write.TheVariants as writes
 use Rattle.revc_words.specs.declared.order.Values.{Values}
-use Rattle.revc_words.specs.Words.{OrderView, order_with, plan_word, format_word, write_word, kind_word, first_word}
+use Rattle.revc_words.specs.Words.{OrderView, order_with, plan_word, start_word, format_word, write_word, kind_word, first_word}
 
 -- ---- the command
 
@@ -121,6 +123,9 @@ number_of least most word =
 abbrev pub plan_of : List ℕ → Option How
 plan_of word = first_with plan_word (Auto ∷ Compact ∷ Eager ∷ Lean ∷ Pebble ∷ []) word
 
+abbrev pub start_of : List ℕ → Option Start
+start_of word = first_with start_word (Any ∷ Zero ∷ []) word
+
 abbrev pub format_of : List ℕ → Option Format
 format_of word = first_with format_word (Real ∷ Qasm ∷ []) word
 
@@ -146,6 +151,7 @@ pub record Texts : Type 0 where
   pub gates : Option (List ℕ)
   pub borrow : Option (List ℕ)
   pub nodes : Option (List ℕ)
+  pub outputs : Option (List ℕ)
   pub format : Option (List ℕ)
   pub from : Option (List ℕ)
   pub to : Option (List ℕ)
@@ -160,6 +166,7 @@ texts_by text_of = record {
   gates = text_of (codes "gates");
   borrow = text_of (codes "borrow");
   nodes = text_of (codes "nodes");
+  outputs = text_of (codes "outputs");
   format = text_of (codes "format");
   from = text_of (codes "from");
   to = text_of (codes "to");
@@ -177,6 +184,7 @@ values_of texts =
     option_and_then (λ gates.
     option_and_then (λ borrow.
     option_and_then (λ nodes.
+    option_and_then (λ outputs.
     option_and_then (λ format.
     option_and_then (λ from.
     option_and_then (λ to.
@@ -187,6 +195,7 @@ values_of texts =
       gates = gates;
       borrow = borrow;
       nodes = nodes;
+      outputs = outputs;
       format = format;
       from = from;
       to = to;
@@ -198,6 +207,7 @@ values_of texts =
     (value_or Qasm format_of texts.to))
     (value_or Real format_of texts.from))
     (value_or Real format_of texts.format))
+    (value_or Zero start_of texts.outputs))
     (value_or USUAL_NODES (number_of 1 MOST_NODES) texts.nodes))
     (value_or 0 (number_of 0 MOST_BORROWED) texts.borrow))
     (value_or USUAL_GATES (number_of 1 MOST_GATES) texts.gates))
