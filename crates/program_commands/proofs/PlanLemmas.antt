@@ -6,12 +6,13 @@ use Rattle.std.proofs.lemmas.Bool.Decides.{leb_tells}
 use Rattle.std.proofs.lemmas.List.{length-map}
 use Rattle.claim_check.specs.Budgets.{Measures}
 use Rattle.claim_check.specs.Measures.{AreMeasuresOf, IsNoLarger, IsWithin}
-use Rattle.claim_check.specs.Settled.{SettledView, IsSettledOf, settled_outputs}
+use Rattle.claim_check.specs.Settled.{SettledView, IsSettledOf}
 use Rattle.claim_check.proofs.BudgetLemmas.{settled_graphs_are_within}
 use Rattle.circuit_plans.specs.declared.plan.TheConstants.{MOST_LINES, MOST_GATES}
 use Rattle.circuit_plans.specs.declared.choice.How.{How}
 use Rattle.format_parts.specs.Fits.{FitAFile}
-use Rattle.circuit_plans.specs.Plans.{BudgetView, LaidView, PutsOutputs, roles_of, lines_in}
+use Rattle.circuit_plans.specs.declared.roles.Start.{Start}
+use Rattle.circuit_plans.specs.Plans.{AddsOutput, BudgetView, LaidView, roles_of, lines_in, start_of}
 use Rattle.mct_circuit.specs.Gates.{AreGatesOn, AreNarrow}
 use Rattle.qasm_format.proofs.MeaningLemmas as qasm
 use Rattle.real_format.proofs.MeaningLemmas as real
@@ -38,7 +39,7 @@ use Rattle.program_commands.proofs.FormedLemmas.{some_output}
 -- ---- the plan of the graph
 
 clean_plan : (how : How) (text : List ℕ) (laid : LaidView) (tape : TapeView) (s : SettledView) (b : BudgetView) (l : LeavesTape text tape)
-    → IsSettledOf tape s → IsPlanOf how s b laid → b.lines ≤ MOST_LINES → b.gates ≤ MOST_GATES → IsCleanPlan laid l.program b
+    → IsSettledOf tape s → IsPlanOf how s b laid → b.lines ≤ MOST_LINES → b.gates ≤ MOST_GATES → IsCleanPlan (start_of how) laid l.program b
 clean_plan how text laid tape s b l is plan lines gates =
     let some = some_output text l.program tape l.formed l.tape_of in
     let count = is.outputs in
@@ -46,20 +47,20 @@ clean_plan how text laid tape s b l is plan lines gates =
     let sum_of = plan.sum_of in
     record { tape = tape; tape_of = l.tape_of; graph = s; graph_of = is; plan = plan.is; some = omega arith; most_lines = lines; most_gates = gates }
 
-computes_on : (laid : LaidView) (p : ProgramView) (b : BudgetView) → IsCleanPlan laid p b → (input rest : List Bool) → IsInput p.params input
-    → length rest ≡ b.borrow → ComputesOn p (roles_of laid) laid.circuit.gates input rest
-computes_on laid p b c input rest size many =
-    let gives : PutsOutputs (roles_of laid) laid.circuit.gates input (settled_outputs c.graph input) rest = c.plan.clean.puts input rest
-    (size ∙ ap sum (sym c.tape_of.widths) ∙ sym c.graph_of.inputs ∙ sym c.plan.inputs) (many ∙ sym c.plan.borrowed) in
-    record {
-      output = outputs_on c.tape input;
-      is = tape_gives_output p.params p.body c.tape c.tape_of input size;
-      size = length-map c.tape.outputs (bit_on c.tape input) ∙ sym c.graph_of.outputs ∙ sym c.plan.outputs;
-      puts = subst (λ bits. PutsOutputs (roles_of laid) laid.circuit.gates input bits rest) (c.graph_of.values input) gives;
-    }
+computes_on : (start : Start) (laid : LaidView) (p : ProgramView) (b : BudgetView) → IsCleanPlan start laid p b → (input rest : List Bool)
+    → IsInput p.params input → length rest ≡ b.borrow → ComputesOn p start (roles_of laid) laid.circuit.gates input rest
+computes_on start laid p b c input rest size many = record {
+  output = outputs_on c.tape input;
+  is = tape_gives_output p.params p.body c.tape c.tape_of input size;
+  size = length-map c.tape.outputs (bit_on c.tape input) ∙ sym c.graph_of.outputs ∙ sym c.plan.outputs;
+  adds = λ held wide may.
+      subst (λ bits. AddsOutput (roles_of laid) laid.circuit.gates input held bits rest) (c.graph_of.values input)
+      (c.plan.clean.adds input held rest (size ∙ ap sum (sym c.tape_of.widths) ∙ sym c.graph_of.inputs ∙ sym c.plan.inputs) wide may
+      (many ∙ sym c.plan.borrowed));
+}
 
-writable : (laid : LaidView) (p : ProgramView) (b : BudgetView) → IsCleanPlan laid p b → IsWritable laid
-writable laid p b c =
+writable : (start : Start) (laid : LaidView) (p : ProgramView) (b : BudgetView) → IsCleanPlan start laid p b → IsWritable laid
+writable start laid p b c =
     let lines = c.plan.lines in
     let gates = c.plan.gates in
     let most = c.most_lines in
@@ -83,7 +84,7 @@ few_toffoli_gates order laid tape s is no_larger chosen = record {
 }
 
 planned : (order : OrderView) (text : List ℕ) (laid : LaidView) (tape : TapeView) (s : SettledView) (l : LeavesSettled text order.nodes tape)
-    → IsSettledWithin tape order.nodes s → IsPlanOf order.plan s (budget_of order) laid → IsCleanPlan laid l.left.program (budget_of order)
+    → IsSettledWithin tape order.nodes s → IsPlanOf order.plan s (budget_of order) laid → IsCleanPlan (start_of order.plan) laid l.left.program (budget_of order)
     → IsPlannedFor order text tape laid
 planned order text laid tape s l settled plan c =
     let lines = c.plan.lines in
@@ -97,7 +98,7 @@ planned order text laid tape s l settled plan c =
           borrows = c.plan.borrowed;
           placed = subst (λ n. AreGatesOn n laid.circuit.gates) (sym plan.sum_of) plan.on;
           narrow = plan.narrow;
-          computes = computes_on laid l.left.program (budget_of order) c;
+          computes = computes_on (start_of order.plan) laid l.left.program (budget_of order) c;
         };
         few_lines = omega arith;
         few_gates = c.plan.gates;
@@ -113,7 +114,7 @@ planned order text laid tape s l settled plan c =
           few_toffoli_gates = few_toffoli_gates order laid tape s settled.of_tape settled.no_larger plan.chosen;
         };
       };
-      can = writable laid l.left.program (budget_of order) c;
+      can = writable (start_of order.plan) laid l.left.program (budget_of order) c;
       sum_of = plan.sum_of;
       on = plan.on;
     }

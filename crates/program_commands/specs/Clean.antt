@@ -1,7 +1,8 @@
 -- What a clean file is, in each format: what it computes, and what its lines hold before and behind.
 use Rattle.std.specs.Prelude.{◌≡◌, ℕ, Bool, List, length, sum}
-use Rattle.circuit_plans.specs.Plans.{PutsOutputs, lines_in}
+use Rattle.circuit_plans.specs.Plans.{AddsOutput, MayHold, lines_in}
 use Rattle.circuit_plans.specs.declared.roles.Roles.{Roles}
+use Rattle.circuit_plans.specs.declared.roles.Start.{Start}
 use Rattle.mct_circuit.specs.Gates.{GateView, AreGatesOn, AreNarrow}
 use Rattle.qasm_format.specs.Compiled as qasm
 use Rattle.real_format.specs.Compiled as real
@@ -21,29 +22,31 @@ abbrev pub file_text : Format → Roles → List GateView → List ℕ
 file_text Real roles gates = real.compiled_text roles gates
 file_text Qasm roles gates = qasm.compiled_text roles gates
 
--- on this input, whatever the borrowed lines hold, the gates put the program's output on the output lines
-pub record ComputesOn (p : ProgramView) (roles : Roles) (gates : List GateView)
+-- on this input, whatever the borrowed lines hold, the gates add the program's output to whatever the output lines may hold
+pub record ComputesOn (p : ProgramView) (start : Start) (roles : Roles) (gates : List GateView)
     (input borrowed : List Bool) : Type 0 where
   pub output : List Bool
   pub is : HasOutput p.params p.body input output
   pub size : length output ≡ roles.outputs
-  pub puts : PutsOutputs roles gates input output borrowed
+  pub adds : (held : List Bool) → length held ≡ roles.outputs → MayHold start held
+      → AddsOutput roles gates input held output borrowed
 
 -- A clean circuit for a program, with so many borrowed lines: its gates are on lines of these roles, each a flip with at
--- most two controls, all positive, on different lines; and they compute the program on every input.
-pub record IsCleanCircuit (p : ProgramView) (borrowed : ℕ) (roles : Roles)
+-- most two controls, all positive, on different lines; and they compute the program on every input, whatever the output
+-- lines may hold at the start.
+pub record IsCleanCircuit (p : ProgramView) (start : Start) (borrowed : ℕ) (roles : Roles)
     (gates : List GateView) : Type 0 where
   pub inputs : roles.inputs ≡ sum (widths_of p.params)
   pub borrows : roles.borrowed ≡ borrowed
   pub placed : AreGatesOn (lines_in roles) gates
   pub narrow : AreNarrow gates
   pub computes : (input bits : List Bool) → IsInput p.params input → length bits ≡ borrowed
-      → ComputesOn p roles gates input bits
+      → ComputesOn p start roles gates input bits
 
 -- a clean file for a program: by the meaning of its format it is a clean circuit for it
-pub record IsClean (format : Format) (text : List ℕ) (p : ProgramView) (borrowed : ℕ)
-    : Type 0 where
+pub record IsClean (format : Format) (text : List ℕ) (p : ProgramView) (start : Start)
+    (borrowed : ℕ) : Type 0 where
   pub roles : Roles
   pub gates : List GateView
   pub meaning : MeansCompiledIn format text roles gates
-  pub circuit : IsCleanCircuit p borrowed roles gates
+  pub circuit : IsCleanCircuit p start borrowed roles gates

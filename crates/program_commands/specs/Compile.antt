@@ -6,7 +6,7 @@ use Rattle.claim_check.specs.Budgets.{Measures}
 use Rattle.claim_check.specs.Measures.{AreMeasuresOf, IsNoLarger}
 use Rattle.claim_check.specs.Settled.{SettledView, IsSettledOf}
 use Rattle.circuit_plans.specs.declared.roles.Roles.{Roles}
-use Rattle.circuit_plans.specs.Plans.{BudgetView, LaidView, lines_in, roles_of}
+use Rattle.circuit_plans.specs.Plans.{BudgetView, LaidView, lines_in, roles_of, start_of}
 use Rattle.mct_circuit.specs.Gates.{GateView}
 use Rattle.mct_circuit.specs.Sizes.{counts_of}
 use Rattle.circuit_plans.specs.declared.choice.How.TheVariants.{Compact, Lean}
@@ -52,25 +52,25 @@ pub record IsPlannedAs (order : OrderView) (tape : TapeView) (roles : Roles)
   pub few_toffoli_gates : HasFewToffoliGates order tape gates
 
 -- The text is well formed, and that of one program, which leaves this tape and whose claims hold on all inputs, within
--- the nodes; the gates are a clean circuit for it, with the order's borrowed lines, within its budgets, and of a plan
--- that it allows.
+-- the nodes; the gates are a clean circuit for it, from what the order's plan allows on the output lines, with its
+-- borrowed lines, within its budgets, and of a plan that it allows.
 pub record HasCircuit (order : OrderView) (text : List ℕ) (tape : TapeView) (roles : Roles)
     (gates : List GateView) : Type 0 where
   pub settled : LeavesSettled text order.nodes tape
   pub only : (p : ProgramView) → IsWellFormed text p → p ≡ settled.left.program
-  pub clean : IsCleanCircuit settled.left.program order.borrow roles gates
+  pub clean : IsCleanCircuit settled.left.program (start_of order.plan) order.borrow roles gates
   pub few_lines : lines_in roles ≤ order.lines
   pub few_gates : length gates ≤ order.gates
   pub planned : IsPlannedAs order tape roles gates
 
 -- The text is well formed, and that of one program, whose claims hold on all inputs, within the nodes; the file is a
--- clean one for it in the order's format, with its borrowed lines and within its budgets, and the text of its gates,
--- which the order's plan allows.
+-- clean one for it in the order's format, from what the order's plan allows on the output lines, with its borrowed lines
+-- and within its budgets, and the text of its gates, which the plan allows.
 pub record IsCompiled (order : OrderView) (text file : List ℕ) : Type 0 where
   pub tape : TapeView
   pub settled : LeavesSettled text order.nodes tape
   pub only : (p : ProgramView) → IsWellFormed text p → p ≡ settled.left.program
-  pub clean : IsClean order.format file settled.left.program order.borrow
+  pub clean : IsClean order.format file settled.left.program (start_of order.plan) order.borrow
   pub few_lines : lines_in clean.roles ≤ order.lines
   pub few_gates : length clean.gates ≤ order.gates
   pub planned : IsPlannedAs order tape clean.roles clean.gates

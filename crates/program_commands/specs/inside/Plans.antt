@@ -2,7 +2,8 @@
 use Rattle.std.specs.Prelude.{◌≡◌, ℕ, ◌+◌, ◌≤◌, List, length}
 use Rattle.claim_check.specs.Settled.{SettledView, IsSettledOf}
 use Rattle.circuit_plans.specs.declared.plan.TheConstants.{MOST_LINES, MOST_GATES}
-use Rattle.circuit_plans.specs.Plans.{BudgetView, LaidView, roles_of}
+use Rattle.circuit_plans.specs.Plans.{BudgetView, LaidView, roles_of, start_of}
+use Rattle.circuit_plans.specs.declared.roles.Start.{Start}
 use Rattle.held_nodes.specs.Plans.{wanted_lines}
 use Rattle.inliner.specs.Faults.{IsRefused}
 use Rattle.inliner.specs.declared.fault.RunFault.{RunFault}
@@ -23,12 +24,13 @@ use Rattle.program_commands.specs.Outcomes.{IsWritable}
 use Rattle.program_commands.specs.inside.Mappings.{run_fault}
 
 -- a plan of a program's settled graph, within a budget
-pub record IsCleanPlan (laid : LaidView) (p : ProgramView) (b : BudgetView) : Type 0 where
+pub record IsCleanPlan (start : Start) (laid : LaidView) (p : ProgramView) (b : BudgetView)
+    : Type 0 where
   pub tape : TapeView
   pub tape_of : IsTapeOf p.params p.body tape
   pub graph : SettledView
   pub graph_of : IsSettledOf tape graph
-  pub plan : IsLaidFor graph b laid
+  pub plan : IsLaidFor start graph b laid
   pub some : 1 ≤ laid.circuit.lines
   pub most_lines : b.lines ≤ MOST_LINES
   pub most_gates : b.gates ≤ MOST_GATES
@@ -37,7 +39,7 @@ pub record IsCleanPlan (laid : LaidView) (p : ProgramView) (b : BudgetView) : Ty
 -- those of its roles
 pub record IsPlanOf (how : How) (graph : SettledView) (b : BudgetView) (laid : LaidView)
     : Type 0 where
-  pub is : IsLaidFor graph b laid
+  pub is : IsLaidFor (start_of how) graph b laid
   pub chosen : IsChosen how graph b laid
   pub sum_of : laid.inputs + laid.outputs + laid.work + laid.borrowed ≡ laid.circuit.lines
   pub on : AreGatesOn laid.circuit.lines laid.circuit.gates
