@@ -2,7 +2,7 @@
 use Rattle.std.proofs.Common.{◌≡◌, ℕ, Bool, false, List, [], Result, Ok, Err, length, replicate, refl, sym, ◌∙◌, subst, arith}
 use Rattle.std.specs.Result.{IfOk, IfErr}
 use Rattle.std.proofs.lemmas.List.{length-replicate}
-use Rattle.arith_command.specs.Arith.{Gives, IsCircuitOf, IsProgramOf, IsWrittenAs, PutsNumbers, StopsAs, compile_order, program_text}
+use Rattle.arith_command.specs.Arith.{Gives, IsCircuitOf, IsProgramOf, IsWrittenAs, AddsNumbers, StopsAs, compile_order, program_text}
 use Rattle.arith_command.specs.Outcomes.{IsArithFault, made_text}
 use Rattle.arith_command.specs.declared.arith.Made.{Made}
 use Rattle.arith_runs.specs.Computes.{Computes}
@@ -11,6 +11,7 @@ use Rattle.arith_templates.specs.declared.kind.Kind.TheVariants.{Add, Mul}
 use Rattle.command_answers.specs.declared.fault.Fault.{Fault}
 use Rattle.command_answers.specs.declared.fault.Fault.TheVariants as faults
 use Rattle.circuit_plans.specs.declared.roles.Roles.{Roles}
+use Rattle.circuit_plans.specs.declared.roles.Start.TheVariants.{Any}
 use Rattle.mct_circuit.specs.Gates.{GateView}
 use Rattle.program_commands.specs.Clean.{IsCleanCircuit}
 use Rattle.program_commands.specs.Compile.{IsCompiled, PassesBudget}
@@ -42,17 +43,17 @@ usual_within format = record {
 
 -- ---- the circuit
 
--- a clean circuit of the program puts out what the kind says
-numbers_put : (order : OrderView) (text : List ℕ) (t : Computes order.kind order.number order.by text) (roles : Roles) (gates : List GateView)
-    → IsCleanCircuit t.program 0 roles gates → (input : List Bool) → length input ≡ inputs_of order.kind order.number → PutsNumbers order roles gates input
-numbers_put order text t roles gates clean input whole =
+-- a clean circuit of the program adds what the kind says
+numbers_added : (order : OrderView) (text : List ℕ) (t : Computes order.kind order.number order.by text) (roles : Roles) (gates : List GateView)
+    → IsCleanCircuit t.program Any 0 roles gates → (input : List Bool) → length input ≡ inputs_of order.kind order.number → AddsNumbers order roles gates input
+numbers_added order text t roles gates clean input whole =
     let is : IsInput t.program.params input = whole ∙ sym t.inputs in
     let on = clean.computes input [] is refl in
-    record { output = on.output; size = t.outputs input on.output is on.is; meets = t.meets input on.output is on.is; puts = on.puts }
+    record { output = on.output; size = t.outputs input on.output is on.is; meets = t.meets input on.output is on.is; adds = λ held wide. on.adds held wide tt }
 
 -- it has an output line for each output
 outputs_are : (order : OrderView) (text : List ℕ) (t : Computes order.kind order.number order.by text) (roles : Roles) (gates : List GateView)
-    → IsCleanCircuit t.program 0 roles gates → roles.outputs ≡ outputs_of order.kind order.number order.by
+    → IsCleanCircuit t.program Any 0 roles gates → roles.outputs ≡ outputs_of order.kind order.number order.by
 outputs_are order text t roles gates clean =
     let count = inputs_of order.kind order.number in
     let input : List Bool = replicate count false in
@@ -66,8 +67,8 @@ circuit_of format order file t c =
     let roles = c.clean.roles in
     let gates = c.clean.gates in
     let same : t.program ≡ c.settled.left.program = c.only t.program t.formed in
-    let clean : IsCleanCircuit t.program 0 roles gates =
-    subst (λ (p : ProgramView). IsCleanCircuit p 0 roles gates) (sym same) c.clean.circuit in
+    let clean : IsCleanCircuit t.program Any 0 roles gates =
+    subst (λ (p : ProgramView). IsCleanCircuit p Any 0 roles gates) (sym same) c.clean.circuit in
     record {
       roles = roles;
       gates = gates;
@@ -79,7 +80,7 @@ circuit_of format order file t c =
       no_borrowed = clean.borrows;
       few_lines = c.few_lines;
       few_gates = c.few_gates;
-      computes = numbers_put order (program_text order) t roles gates clean;
+      computes = numbers_added order (program_text order) t roles gates clean;
       compiled = c;
     }
 

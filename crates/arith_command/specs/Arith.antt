@@ -8,7 +8,8 @@ use Rattle.command_answers.specs.Outcomes.{Promise, budget_promise}
 use Rattle.command_answers.specs.declared.fault.Fault.{Fault}
 use Rattle.circuit_plans.specs.declared.choice.How.TheVariants.{Auto}
 use Rattle.circuit_plans.specs.declared.roles.Roles.{Roles}
-use Rattle.circuit_plans.specs.Plans.{PutsOutputs, lines_in}
+use Rattle.circuit_plans.specs.declared.roles.Start.TheVariants.{Zero}
+use Rattle.circuit_plans.specs.Plans.{AddsOutput, lines_in}
 use Rattle.mct_circuit.specs.Gates.{GateView, AreGatesOn, AreNarrow}
 use Rattle.program_commands.specs.Clean.{MeansCompiledIn}
 use Rattle.program_commands.specs.Compile.{HasFittingRow, IsCompiled, PassesBudget}
@@ -33,6 +34,7 @@ compile_order format = record {
   gates = USUAL_GATES;
   borrow = 0;
   nodes = USUAL_NODES;
+  outputs = Zero;
   format = format;
   from = formats.Real;
   to = formats.Qasm;
@@ -50,14 +52,15 @@ pub record IsProgramOf (order : OrderView) (written : List ℕ) : Type 0 where
   pub text : written ≡ program_text order
   pub computes : Computes order.kind order.number order.by written
 
--- On this input, with 0 on all other lines, the gates put on the output lines what the kind says of the numbers of the
--- input, and leave the other lines as they were.
-pub record PutsNumbers (order : OrderView) (roles : Roles) (gates : List GateView)
+-- On this input, with 0 on the work lines, the gates add to whatever the output lines hold what the kind says of the
+-- numbers of the input, and leave the other lines as they were.
+pub record AddsNumbers (order : OrderView) (roles : Roles) (gates : List GateView)
     (input : List Bool) : Type 0 where
   pub output : List Bool
   pub size : length output ≡ outputs_of order.kind order.number order.by
   pub meets : Meets order.kind order.number order.by input output
-  pub puts : PutsOutputs roles gates input output []
+  pub adds : (held : List Bool) → length held ≡ roles.outputs
+      → AddsOutput roles gates input held output []
 
 -- The file means a circuit of flips with at most two controls, all positive, which computes what the kind says on every
 -- input, within the usual lines and gates; it is the one that `compile` writes for the text of the program.
@@ -73,7 +76,7 @@ pub record IsCircuitOf (format : Format) (order : OrderView) (file : List ℕ) :
   pub few_lines : lines_in roles ≤ USUAL_LINES
   pub few_gates : length gates ≤ USUAL_GATES
   pub computes : (input : List Bool) → length input ≡ inputs_of order.kind order.number
-      → PutsNumbers order roles gates input
+      → AddsNumbers order roles gates input
   pub compiled : IsCompiled (compile_order format) (program_text order) file
 
 -- what is written, as it is asked for
