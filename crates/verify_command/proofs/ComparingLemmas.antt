@@ -7,7 +7,7 @@ use Rattle.std.proofs.lemmas.List.{length-map}
 use Rattle.circuit_commands.specs.Circuits.{ReadCircuit, Means, line_count}
 use Rattle.circuit_commands.specs.Outcomes.{IsCircuitFault}
 use Rattle.circuit_commands.specs.declared.limits.TheConstants.{MOST_CIRCUIT_BYTES}
-use Rattle.circuit_verify.specs.Comparisons.{Comparison, of_settled, of_tape, roles_in}
+use Rattle.circuit_verify.specs.Comparisons.{Comparison, beside, of_settled, of_tape, roles_in}
 use Rattle.circuit_verify.specs.Verdicts.{IsFirstWide, IsVerified, IsVerifyFault}
 use Rattle.circuit_verify.specs.declared.fault.VerifyFault.{VerifyFault}
 use Rattle.circuit_verify.specs.declared.fault.VerifyFault.TheVariants as verdicts
@@ -17,6 +17,7 @@ use Rattle.command_answers.specs.declared.fault.CircuitRefusal.TheVariants as ci
 use Rattle.command_answers.specs.declared.fault.Fault.{Fault}
 use Rattle.command_answers.specs.declared.fault.Fault.TheVariants as faults
 use Rattle.command_answers.specs.declared.fault.Refusal.TheVariants as refusals
+use Rattle.circuit_plans.specs.declared.roles.Start.{Start}
 use Rattle.circuit_plans.specs.Plans.{lines_in}
 use Rattle.mct_circuit.specs.Gates.{AreGatesOn, CircuitView}
 use Rattle.program_commands.specs.Clean.{IsCleanCircuit}
@@ -55,28 +56,21 @@ named q limit (verdicts.Diagram nodes) is = tt
 named q limit (verdicts.Differs line bits) is = is.1.in_range
 named q limit verdicts.Memory is = tt
 
-pub tape_verified : (t : TapeView) (s : SettledView) (params : List ℕ) (circuit : CircuitView) (borrow : ℕ) → params ≡ t.params
-    → IsSettledOf t s → IsVerified (record { program = of_settled params s; circuit = circuit; borrow = borrow })
-    → IsVerified (record { program = of_tape t; circuit = circuit; borrow = borrow })
-tape_verified t s params circuit borrow same is h =
-    (said_of_tapes t s is circuit borrow 0).verified
-    (subst (λ (ps : List ℕ). IsVerified (record { program = of_settled ps s; circuit = circuit; borrow = borrow })) same h)
-
-pub tape_stops : (t : TapeView) (s : SettledView) (params : List ℕ) (circuit : CircuitView) (borrow nodes : ℕ) (fault : VerifyFault) (given : Fault)
-    → params ≡ t.params → IsSettledOf t s → given ≡ comparing_fault circuit fault
-    → IsVerifyFault (record { program = of_settled params s; circuit = circuit; borrow = borrow }) nodes fault
-    → IsComparingFault nodes given (record { program = of_tape t; circuit = circuit; borrow = borrow })
-tape_stops t s params circuit borrow nodes fault given same is named h =
-    let q : Comparison = record { program = of_tape t; circuit = circuit; borrow = borrow } in
-    let said = (said_of_tapes t s is circuit borrow nodes).refused fault
-    (subst (λ (ps : List ℕ). IsVerifyFault (record { program = of_settled ps s; circuit = circuit; borrow = borrow }) nodes fault) same h) in
+pub tape_stops : (t : TapeView) (s : SettledView) (params : List ℕ) (circuit : CircuitView) (start : Start) (borrow nodes : ℕ) (fault : VerifyFault)
+    (given : Fault) → params ≡ t.params → IsSettledOf t s → given ≡ comparing_fault circuit fault
+    → IsVerifyFault (beside (of_settled params s) circuit start borrow) nodes fault
+    → IsComparingFault nodes given (beside (of_tape t) circuit start borrow)
+tape_stops t s params circuit start borrow nodes fault given same is named h =
+    let q : Comparison = beside (of_tape t) circuit start borrow in
+    let said = (said_of_tapes t s is circuit start borrow nodes).refused fault
+    (subst (λ (ps : List ℕ). IsVerifyFault (beside (of_settled ps s) circuit start borrow) nodes fault) same h) in
     subst (λ (f : Fault). IsComparingFault nodes f q) (sym named) (comparing q nodes fault said)
 
 -- ---- the comparison of two texts
 
 clean_of : (order : OrderView) (program : List ℕ) (tape : TapeView) (read : ReadCircuit) (settled : LeavesSettled program order.nodes tape)
     → AreGatesOn (line_count read) read.gates → IsVerified (comparison_of order tape read)
-    → IsCleanCircuit settled.left.program order.borrow (roles_in (comparison_of order tape read)) read.gates
+    → IsCleanCircuit settled.left.program order.outputs order.borrow (roles_in (comparison_of order tape read)) read.gates
 clean_of order program tape read settled on v =
     let p = settled.left.program in
     let of = settled.left.tape_of in
@@ -91,18 +85,18 @@ clean_of order program tape read settled on v =
         output = outputs_on tape input;
         is = tape_gives_output p.params p.body tape of input size;
         size = length-map tape.outputs (bit_on tape input);
-        puts = v.agrees.puts input bits (size ∙ ap sum (sym of.widths)) many;
+        adds = λ held wide may. v.agrees.adds input held bits (size ∙ ap sum (sym of.widths)) wide may many;
       };
     }
 
 pub texts_verified : {T E : Type 0} (order : OrderView) (program text : List ℕ) (tape : TapeView) (graph : SettledView) (read : ReadCircuit)
     (circuit : CircuitView) (r : Result T E) → LeavesTape program tape → Means order.from text read → IsSettledWithin tape order.nodes graph
     → circuit.lines ≡ line_count read → circuit.gates ≡ read.gates → AreGatesOn circuit.lines circuit.gates
-    → OnOk r (IsVerified (record { program = of_tape tape; circuit = circuit; borrow = order.borrow })) → OnOk r (AreVerified order program text)
+    → OnOk r (IsVerified (beside (of_tape tape) circuit order.outputs order.borrow)) → OnOk r (AreVerified order program text)
 texts_verified {T} {E} order program text tape graph read circuit (Ok x) left means within lines gates on h =
     let settled : LeavesSettled program order.nodes tape = record { left = left; hold = within.hold } in
     let v : IsVerified (comparison_of order tape read) =
-    verified_circuit (of_tape tape) circuit (line_count read) (length read.gates) read.gates order.borrow lines gates h in
+    verified_circuit (of_tape tape) circuit (line_count read) (length read.gates) read.gates order.outputs order.borrow lines gates h in
     record {
       compared = record { tape = tape; settled = settled; read = read; means = means; holds = v };
       clean = clean_of order program tape read settled
@@ -158,12 +152,12 @@ comparison_stops order program text tape read fault settled means h = absurd h
 pub texts_stop : {T : Type 0} (order : OrderView) (program text : List ℕ) (tape : TapeView) (graph : SettledView) (read : ReadCircuit)
     (circuit : CircuitView) (r : Result T Fault) → LeavesTape program tape → Means order.from text read → IsSettledWithin tape order.nodes graph
     → circuit.lines ≡ line_count read → circuit.gates ≡ read.gates
-    → IfErr r (λ fault. IsComparingFault order.nodes fault (record { program = of_tape tape; circuit = circuit; borrow = order.borrow }))
+    → IfErr r (λ fault. IsComparingFault order.nodes fault (beside (of_tape tape) circuit order.outputs order.borrow))
     → IfErr r (IsPartsFault order program text)
 texts_stop {T} order program text tape graph read circuit (Ok x) left means within lines gates h = tt
 texts_stop {T} order program text tape graph read circuit (Err fault) left means within lines gates h =
     comparison_stops order program text tape read fault (record { left = left; hold = within.hold }) means
-    (stops_circuit (of_tape tape) circuit (line_count read) (length read.gates) read.gates order.borrow order.nodes fault lines gates h)
+    (stops_circuit (of_tape tape) circuit (line_count read) (length read.gates) read.gates order.outputs order.borrow order.nodes fault lines gates h)
 
 -- ---- a source
 

@@ -1,8 +1,9 @@
--- `verify`: that a circuit computes a program, for every input and whatever its borrowed lines hold.
+-- `verify`: that a circuit computes a program, for every input, whatever its output lines hold that they may, and whatever
+-- its borrowed lines hold.
 use Rattle.std.specs.Prelude.{◌≡◌, ◌⊎◌, ℕ, Bool, ◌+◌, ◌<◌, ◌≤◌, List, [], ◌∷◌, length, Some, codes}
 use Rattle.circuit_commands.specs.declared.limits.TheConstants.{MOST_CIRCUIT_BYTES}
 use Rattle.circuit_commands.specs.Circuits.{ReadCircuit, Means, IsCircuitRefusal, line_count}
-use Rattle.circuit_verify.specs.Comparisons.{Comparison, least_lines, of_tape, roles_in}
+use Rattle.circuit_verify.specs.Comparisons.{Comparison, beside, least_lines, of_tape, roles_in}
 use Rattle.circuit_verify.specs.LineFunctions.{HasMore}
 use Rattle.circuit_verify.specs.Verdicts.{DiffersFirst, HasEnoughLines, IsComparable, IsFirstWide, IsVerified}
 use Rattle.command_answers.specs.Outcomes.{Promise}
@@ -35,17 +36,17 @@ pub record HasParts (source : List ℕ) (OfParts : List ℕ → List ℕ → Typ
   pub parted : IsParted source program circuit
   pub holds : OfParts program circuit
 
--- the circuit that was read beside the tape of the program, with the borrowed lines of the order
+-- the circuit that was read beside the tape of the program, from what the order lets the output lines hold, with its
+-- borrowed lines
 abbrev pub comparison_of : OrderView → TapeView → ReadCircuit → Comparison
-comparison_of order tape circuit = record {
-  program = of_tape tape;
-  circuit = record {
-    lines = line_count circuit;
-    limit = length circuit.gates;
-    gates = circuit.gates;
-  };
-  borrow = order.borrow;
-}
+comparison_of order tape circuit =
+    beside (of_tape tape)
+    (record {
+      lines = line_count circuit;
+      limit = length circuit.gates;
+      gates = circuit.gates;
+    })
+    order.outputs order.borrow
 
 -- the claims of the program hold on all inputs, the text means a circuit, and this holds of the two
 pub record Compares (order : OrderView) (OfTwo : Comparison → Type 0) (program circuit : List ℕ)
@@ -59,10 +60,11 @@ pub record Compares (order : OrderView) (OfTwo : Comparison → Type 0) (program
 -- ---- what is written
 
 -- The claims of the program hold on all inputs, and the circuit agrees with it, within the limit of lines: it is a clean
--- circuit for the program, whose inputs come first, then the outputs, the work lines and the borrowed ones.
+-- circuit for the program, from what the order lets the output lines hold, whose inputs come first, then the outputs, the
+-- work lines and the borrowed ones.
 pub record AreVerified (order : OrderView) (program circuit : List ℕ) : Type 0 where
   pub compared : Compares order IsVerified program circuit
-  pub clean : IsCleanCircuit compared.settled.left.program order.borrow
+  pub clean : IsCleanCircuit compared.settled.left.program order.outputs order.borrow
       (roles_in (comparison_of order compared.tape compared.read)) compared.read.gates
 
 abbrev pub verified_text : List ℕ

@@ -1,12 +1,13 @@
 // A circuit that was read, compared with the settled graph of a program's tape.
 ghost use Rattle.std.specs.Prelude.{◌≡◌, ◌≤◌, IfErr, OnOk};
 ghost use Rattle.circuit_plans.specs.declared.plan.TheConstants.{MOST_BORROWED};
-ghost use Rattle.circuit_verify.specs.Comparisons.{of_tape};
+ghost use Rattle.circuit_verify.specs.Comparisons.{beside, of_tape};
 ghost use Rattle.circuit_verify.specs.Verdicts.{IsVerified};
 ghost use Rattle.claim_check.specs.Settled.{IsSettledOf};
 ghost use Rattle.verify_command.specs.inside.Mappings.{IsNamedIn, comparing_fault};
 ghost use Rattle.verify_command.specs.inside.Stages.{IsComparingFault};
 
+use circuit_plans::Start;
 use circuit_verify::{VerifyFault, said_of_tapes, verify};
 use claim_check::Settled;
 use command_answers::Fault;
@@ -21,26 +22,21 @@ pub fn compare(
     tape: &Tape,
     graph: &Settled,
     circuit: &Circuit,
+    start: Start,
     borrow: u32,
     nodes: u32,
 ) -> Result<(), Fault>
     requires settled { IsSettledOf tape.now graph.now }
     requires borrow { borrow ≤ MOST_BORROWED }
     requires nodes { 1 ≤ nodes }
-    ensures ok { OnOk result (IsVerified (record {
-      program = of_tape tape.now;
-      circuit = circuit.now;
-      borrow = borrow;
-    })) }
-    ensures err { IfErr result (λ fault. IsComparingFault nodes fault (record {
-      program = of_tape tape.now;
-      circuit = circuit.now;
-      borrow = borrow;
-    })) }
+    ensures ok { OnOk result (IsVerified
+        (beside (of_tape tape.now) circuit.now start borrow)) }
+    ensures err { IfErr result (λ fault. IsComparingFault nodes fault
+        (beside (of_tape tape.now) circuit.now start borrow)) }
 {
     // This call says of the tape what is said of its settled graph.
     said_of_tapes();
-    match verify(alloc, graph, tape.params(), circuit, borrow, nodes) {
+    match verify(alloc, graph, tape.params(), circuit, start, borrow, nodes) {
         Ok(()) => Ok(()),
         Err(fault) => Err(comparing_fault(circuit, fault)),
     }

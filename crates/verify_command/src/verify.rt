@@ -38,11 +38,12 @@ pub fn source_limit() -> TextLimit
     }
 }
 
-/// Verifies that the circuit of a source computes its program: on every input, with 0 on the output
-/// lines and the work lines and whatever the borrowed lines hold, the outputs come to stand on the
-/// output lines, and every other line is left as it was. The lines are those of the inputs, then
-/// those of the outputs, then the work lines, then the borrowed ones. A fault is exactly that of
-/// the source, of a part or of the two, or want of memory.
+/// Verifies that the circuit of a source computes its program: on every input, whatever the output
+/// lines hold that the order lets them hold, with 0 on the work lines and whatever the borrowed
+/// lines hold, the outputs are added to the output lines, and every other line is left as it was.
+/// The lines are those of the inputs, then those of the outputs, then the work lines, then the
+/// borrowed ones. A fault is exactly that of the source, of a part or of the two, or want of
+/// memory.
 pub fn verify(alloc: Global, source: &[u8], order: &Order) -> Result<(), Fault>
     requires short { length source.now ≤ MOST_SOURCE_BYTES }
     requires limits { IsWithinLimits (order_of order.now) }
@@ -85,7 +86,8 @@ fn verify_texts(alloc: Global, program: &[u8], circuit: &[u8], order: &Order) ->
     let circuit = read.circuit();
     // This call says that the gates stand on the lines.
     let _ = circuit.lines();
-    compare(alloc, &tape, &graph, circuit, values.borrow, values.nodes)
+    let (start, borrow) = (values.outputs, values.borrow);
+    compare(alloc, &tape, &graph, circuit, start, borrow, values.nodes)
 }
 
 /// Writes that a circuit is verified. It takes no memory.

@@ -3,5 +3,5 @@ use Rattle.verify_command.proofs.comparing.compare.Goals as goal
 
 pub returns-in-Err-clause-err : goal.returns-in-Err-clause-err
 returns-in-Err-clause-err c =
-    tape_stops c.args.tape.now c.args.graph.now c.params.result.now c.args.circuit.now c.args.borrow c.args.nodes c.in-Err.fault c.comparing_fault.result
+    tape_stops c.args.tape.now c.args.graph.now c.params.result.now c.args.circuit.now c.args.start c.args.borrow c.args.nodes c.in-Err.fault c.comparing_fault.result
     c.params.ensures.params c.requires.settled c.comparing_fault.ensures c.in-Err.ensures.refused
