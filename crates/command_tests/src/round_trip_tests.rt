@@ -1,5 +1,6 @@
 // Each program of `examples/` by each plan, in each format, with and without borrowed lines: what
-// `verify` says of its circuit, of what `tidy` leaves of it, and of it without one of its gates.
+// `verify` says of its circuit, with zeros and with anything on the output lines, of what `tidy`
+// leaves of it, and of it without one of its gates.
 use crate::examples::EXAMPLES;
 use crate::left_out::{LEFT_OUT, LEFT_OUT_OF_SHA256, LEFT_OUT_OF_SPECK};
 use crate::rows::left_of;
@@ -59,12 +60,14 @@ fn without_gate(alloc: Global, file: &[u8], behind: usize) -> Result<Vec<u8>, Me
     Ok(left)
 }
 
-// What the tests call: the compiling of a program, the tidying of its circuit and the comparing.
+// What the tests call: the compiling of a program, the tidying of its circuit and the comparing,
+// with zeros and with anything on the output lines.
 #[derive(Drop)]
 struct Calls {
     compile: String,
     tidy: String,
     verify: String,
+    oracle: String,
 }
 
 fn calls_of(
@@ -78,6 +81,7 @@ fn calls_of(
         compile: format!(in alloc; "compile --plan {plan} --format {format} --borrow {borrow}")?,
         tidy: format!(in alloc; "tidy --from {format} --to {format}")?,
         verify: format!(in alloc; "{verify} --from {format} --borrow {borrow}")?,
+        oracle: format!(in alloc; "{verify} --outputs any --from {format} --borrow {borrow}")?,
     })
 }
 
@@ -98,8 +102,8 @@ fn says(
     Ok(left.is(left.status, wanted.as_bytes()))
 }
 
-// Whether a program's circuit, and what `tidy` leaves of it, are judged so, and the circuit without
-// the gate at a third of it so.
+// Whether a program's circuit, also as an oracle, and what `tidy` leaves of it are judged so, and the
+// circuit without the gate at a third of it so.
 fn are_judged(
     alloc: Global,
     calls: &Calls,
@@ -114,6 +118,7 @@ fn are_judged(
     let broken = without_gate(alloc, &circuit, gates / 3)?;
     Ok(
         says(alloc, verify, program, &circuit, whole)?
+            && says(alloc, calls.oracle.as_str(), program, &circuit, whole)?
             && says(alloc, verify, program, &tidied, whole)?
             && says(alloc, verify, program, &broken, damaged)?,
     )

@@ -11,6 +11,22 @@ const TWO_LINES: &[u8] = b".version 2.0\n.numvars 2\n.variables x0 y0\n.begin\nt
 
 const WIDE: &[u8] = b".version 2.0\n.numvars 4\n.variables a b c d\n.begin\nt4 a b c d\n.end\n";
 
+// The product on its output line at once, as a lean plan has it.
+const STRAIGHT: &[u8] = b".version 2.0\n.numvars 3\n.variables a b y\n.begin\nt3 a b y\n.end\n";
+
+// Two outputs of one value, and a circuit that takes the second from the first.
+const TWICE: &[u8] = b"main (a : bool) (b : bool) = reg [a && b; a && b]";
+
+const COPIED: &[u8] = b".version 2.0\n.numvars 4\n.variables a b y z\n.begin\nt3 a b y\nt2 y z
+.end\n";
+
+// A circuit that reads its output line and takes back what it made of it.
+const READ: &[u8] = b".version 2.0\n.numvars 4\n.variables a b y w\n.begin\nt3 a b y\nt3 a y w
+t3 a b w\n.end\n";
+
+const TWO_FLIPS: &[u8] = b".version 2.0\n.numvars 3\n.variables a y w\n.begin\nt2 a y\nt2 y w
+t2 y w\n.end\n";
+
 const VERIFIED: &[u8] = b"verified\n";
 
 const NO_PART: &[u8] = b"revc: no parting line\n";
@@ -107,8 +123,73 @@ const SOURCES: &[Long] = &[
         b"revc: circuit line 1\n",
     ),
     ("verify x", &[], 2, b"revc: bad command line\n"),
+    ("verify --outputs one", &[], 2, b"revc: bad command line\n"),
     ("verify --to qasm", &[], 2, b"revc: bad command line\n"),
 ];
+
+// Output lines that may hold any bits have variables, behind those of the inputs and before those of
+// the borrowed lines.
+const ANY: &[Long] = &[
+    (
+        "verify --outputs any",
+        &[(PRODUCT, 1), (PARTING, 1), (PRODUCT_FILE, 1)],
+        0,
+        VERIFIED,
+    ),
+    (
+        "verify --outputs any",
+        &[(PRODUCT, 1), (PARTING, 1), (STRAIGHT, 1)],
+        0,
+        VERIFIED,
+    ),
+    (
+        "verify --outputs any --nodes 6",
+        &[(PRODUCT, 1), (PARTING, 1), (PRODUCT_FILE, 1)],
+        5,
+        b"revc: circuit passes 6 nodes\n",
+    ),
+    (
+        "verify --outputs any --borrow 1",
+        &[(PRODUCT, 1), (PARTING, 1), (PRODUCT_FILE, 1)],
+        15,
+        b"revc: circuit differs at line 3 on 0001\n",
+    ),
+    (
+        "verify --outputs any",
+        &[(b"main (a : bool) = a", 1), (PARTING, 1), (TWO_FLIPS, 1)],
+        0,
+        VERIFIED,
+    ),
+    (
+        "verify --outputs zero",
+        &[(TWICE, 1), (PARTING, 1), (COPIED, 1)],
+        0,
+        VERIFIED,
+    ),
+    (
+        "verify --outputs any",
+        &[(TWICE, 1), (PARTING, 1), (COPIED, 1)],
+        15,
+        b"revc: circuit differs at line 4 on 0010\n",
+    ),
+    (
+        "verify",
+        &[(PRODUCT, 1), (PARTING, 1), (READ, 1)],
+        0,
+        VERIFIED,
+    ),
+    (
+        "verify --outputs any",
+        &[(PRODUCT, 1), (PARTING, 1), (READ, 1)],
+        15,
+        b"revc: circuit differs at line 4 on 101\n",
+    ),
+];
+
+#[test]
+fn circuits_add_their_outputs_or_are_refused(rt: HostRuntime) -> Result<(), Fail> {
+    check_long(&rt, rt.alloc(), ANY)
+}
 
 #[test]
 fn circuits_are_verified_or_refused(rt: HostRuntime) -> Result<(), Fail> {

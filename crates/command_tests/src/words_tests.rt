@@ -1,7 +1,7 @@
 // The tests of revc_words.
 use crate::rows::words_of;
 use arith_templates::Kind;
-use circuit_plans::How;
+use circuit_plans::{How, Start};
 use revc_words::{Command, Format, Order, WordsFault, Write, read_words};
 use std::alloc::Global;
 use std::process::Abort;
@@ -15,6 +15,7 @@ struct Asked {
     gates: u64,
     borrow: u32,
     nodes: u32,
+    outputs: Start,
     format: Format,
     from: Format,
     to: Format,
@@ -33,6 +34,7 @@ const USUAL: Asked = Asked {
     gates: 1_000_000,
     borrow: 0,
     nodes: 100_000,
+    outputs: Start::Zero,
     format: Format::Real,
     from: Format::Real,
     to: Format::Qasm,
@@ -83,6 +85,14 @@ const ORDERS: &[(&str, Asked)] = &[
         Asked {
             command: Command::Eval,
             bits: &["--"],
+            ..USUAL
+        },
+    ),
+    (
+        "verify --outputs any",
+        Asked {
+            command: Command::Verify,
+            outputs: Start::Any,
             ..USUAL
         },
     ),
@@ -232,6 +242,7 @@ fn assert_asked(rt: &impl Abort, order: &Order, asked: &Asked) {
             ]
     );
     assert!(rt; order.kind == asked.kind && values.write == asked.write);
+    assert!(rt; values.outputs == asked.outputs);
     assert!(rt; values.gates == asked.gates && formats == [asked.format, asked.from, asked.to]);
     assert!(rt; are_same(&order.bits, asked.bits));
 }

@@ -2,6 +2,7 @@
 ghost use Rattle.std.specs.Prelude.{◌≡◌, ◌≤◌, sum, IfOk, OnOk};
 ghost use Rattle.revs_tape.specs.Tapes.{AreWidths};
 
+use circuit_plans::Start;
 use circuit_verify::{VerifyFault, verify};
 use claim_check::{Settled, settle};
 use dependency_graph::Graph;
@@ -35,6 +36,7 @@ fn push_compute(circuit: &mut Circuit) -> Result<(), GateFault>
 fn said(
     alloc: Global,
     circuit: &Circuit,
+    start: Start,
     borrow: u32,
     limit: u32,
     bits: &[bool],
@@ -43,7 +45,7 @@ fn said(
     requires some { 1 ≤ limit }
 {
     let settled = conjunction(alloc)?;
-    let said = match verify(alloc, &settled, &[1, 1], circuit, borrow, limit) {
+    let said = match verify(alloc, &settled, &[1, 1], circuit, start, borrow, limit) {
         Ok(()) => (0, 0),
         Err(VerifyFault::Lines { need }) => (1, u64::from(need)),
         Err(VerifyFault::Gate { gate }) => (2, gate),
@@ -60,16 +62,17 @@ fn assert_clean(rt: &impl Abort, alloc: Global, circuit: &mut Circuit) -> Result
     requires { circuit.old.lines ≡ 4 }
 {
     push_compute(circuit)?;
-    assert!(rt; said(alloc, circuit, 0, 100, &[true, true])? == (4, 3));
+    assert!(rt; said(alloc, circuit, Start::Zero, 0, 100, &[true, true])? == (4, 3));
     circuit.push_flip(&[1, 0], 3)?;
-    assert!(rt; said(alloc, circuit, 0, 3, &[])? == (0, 0));
-    assert!(rt; said(alloc, circuit, 0, 2, &[])? == (3, 2));
-    assert!(rt; said(alloc, circuit, 1, 100, &[false, false, true])? == (4, 2));
+    assert!(rt; said(alloc, circuit, Start::Zero, 0, 3, &[])? == (0, 0));
+    assert!(rt; said(alloc, circuit, Start::Zero, 0, 2, &[])? == (3, 2));
+    assert!(rt; said(alloc, circuit, Start::Any, 0, 7, &[])? == (0, 0));
+    assert!(rt; said(alloc, circuit, Start::Zero, 1, 100, &[false, false, true])? == (4, 2));
     Ok(())
 }
 
 // The conjunction computed, copied and uncomputed; with its work line not cleaned, with it
-// borrowed, and in too few nodes.
+// borrowed, in too few nodes, and with anything on its output line.
 #[test]
 fn conjunctions_are_verified(rt: HostRuntime) -> Result<(), Fail> {
     let mut circuit = Circuit::new(rt.alloc(), 4, 9);
@@ -80,7 +83,7 @@ fn assert_wide(rt: &impl Abort, alloc: Global, circuit: &mut Circuit) -> Result<
     requires { circuit.old.lines ≡ 4 }
 {
     circuit.push_flip(&[0, 1, 2], 3)?;
-    assert!(rt; said(alloc, circuit, 0, 100, &[])? == (2, 0));
+    assert!(rt; said(alloc, circuit, Start::Zero, 0, 100, &[])? == (2, 0));
     Ok(())
 }
 
@@ -88,7 +91,7 @@ fn assert_wide(rt: &impl Abort, alloc: Global, circuit: &mut Circuit) -> Result<
 #[test]
 fn some_circuits_are_not_compared(rt: HostRuntime) -> Result<(), Fail> {
     let few = Circuit::new(rt.alloc(), 2, 9);
-    assert!(rt; said(rt.alloc(), &few, 0, 100, &[])? == (1, 3));
+    assert!(rt; said(rt.alloc(), &few, Start::Zero, 0, 100, &[])? == (1, 3));
     let mut circuit = Circuit::new(rt.alloc(), 4, 9);
     assert_wide(&rt, rt.alloc(), &mut circuit)
 }
