@@ -9,7 +9,7 @@ from models.circuits import is_clean
 from models.claims import variable_order
 from models.commands import READERS as CIRCUITS
 from models.commands import MOST_TIDIED, Answer, answer_of, budget_of, circuit_of, flips_of, parts_of, run_on_zeros
-from models.commands import split_of
+from models.commands import split_of, start_of
 from models.language import Program, Run, program_of
 from models.plans import Budget, Numbers
 from models.templates import inputs_of, wanted
@@ -18,7 +18,7 @@ from models.tidied import is_tidy
 from models.words import Order, order_of
 
 READERS = {"real": real.circuit_of, "qasm": qasm.compiled_circuit_of}
-MOST_TRIED = 7  # bits of inputs and borrowed lines that are tried on all their values
+MOST_TRIED = 7  # bits of inputs, output lines and borrowed lines that are tried on all their values
 TRIED = 4
 SOME_NUMBERS = 5  # random ones on which a circuit of many bits is run
 
@@ -50,7 +50,7 @@ def is_sound(words: List[str], text: bytes, answer: Answer) -> bool:
 def is_fitting(order: Order, program: Program, file: bytes) -> bool:
     budget, circuit = budget_of(order), READERS[order.values["format"]](file)
     fits = len(circuit.names) <= budget.lines and len(circuit.gates) <= budget.gates
-    return fits and is_clean(circuit, program, budget.borrow, words_of(program.inputs + budget.borrow))
+    return fits and is_clean(circuit, program, budget.borrow, words_of)
 
 
 def is_arithmetic(order: Order, file: bytes) -> bool:
@@ -97,20 +97,23 @@ def is_verdict(order: Order, source: bytes, answer: Answer) -> bool:
     on the printed word, at the printed line and at none before it, and on no word, of these, before it or at a line
     before."""
     run, circuit = parts_of(order, source)
-    borrow = order.values["borrow"]
-    inputs, work = len(run.bits), len(circuit.names) - len(run.bits) - len(run.outputs) - borrow
-    names = ["x%d" % number for number in range(inputs)] + ["b%d" % number for number in range(borrow)]
-    places = [names.index(name) for name in variable_order(run.program)] + list(range(inputs, inputs + borrow))
+    start = start_of(order)
+    inputs, outputs = len(run.bits), len(run.outputs)
+    work, held = len(circuit.names) - inputs - outputs - start.borrow, outputs if start.is_any else 0
+    count = inputs + held + start.borrow
+    names = ["x%d" % number for number in range(inputs)]
+    places = [names.index(name) for name in variable_order(run.program)] + list(range(inputs, count))
 
     def first_differing(word: List[int]) -> int:
         """The first line, counted from 1, that differs on a word, or one more than there are."""
-        outputs = [bit for bit, _ in Run(run.program, word[:inputs]).outputs]
-        before = word[:inputs] + [0] * (len(outputs) + work) + word[inputs:]
-        wanted = word[:inputs] + outputs + [0] * work + word[inputs:]
-        pairs = zip(circuit.run(before), wanted)
+        before = word[inputs : inputs + held] or [0] * outputs
+        sums = [bit ^ output for bit, (output, _) in zip(before, Run(run.program, word[:inputs]).outputs)]
+        behind = [0] * work + word[inputs + held :]
+        wanted = word[:inputs] + sums + behind
+        pairs = zip(circuit.run(word[:inputs] + before + behind), wanted)
         return next((line for line, (bit, right) in enumerate(pairs, 1) if bit != right), len(wanted) + 1)
 
-    words = [list(word) for word in words_of(inputs + borrow)]
+    words = [list(word) for word in words_of(count)]
     if answer.status == 0:
         return all(first_differing(word) > len(circuit.names) for word in words)
     line, printed = int(answer.err.split()[5]), [int(bit) for bit in answer.err.split()[-1].decode()]

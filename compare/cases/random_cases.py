@@ -212,6 +212,7 @@ class Verify:
         options = [["--from", "real"]] if is_real and self.random.random() < 0.1 else []
         options += [] if is_real else [self.random.choice([["--from=qasm"], ["--from", "qasm"]])]
         options += [["--borrow", str(borrow)]] if borrow or self.random.random() < 0.1 else []
+        options += [["--outputs", self.random.choice(["any", "any", "any", "zero"])]] if self.random.random() < 0.4 else []
         self.random.shuffle(options)
         return [self.name] + [word for option in options for word in option]
 

@@ -485,6 +485,9 @@ TIDIED = [
 PARTED = BITS + "a && b\n---\n"
 TWO_LINES = ".version 2.0\n.numvars 2\n.variables x0 y0\n.constants -0\n.begin\nt2 x0 y0\n.end\n"
 UNDONE = FILE.replace("t2 w0 y0\nt3 x0 x1 w0", "t2 w0 y0")
+TWICE = BITS + "reg [a && b; a && b]\n---\n"
+COPIED = on_lines("a b y z", "t3 a b y", "t2 y z")
+READ = on_lines("a b y w", "t3 a b y", "t3 a y w", "t3 a b w")
 IN_QASM = HEAD + "qreg q[4];\nccx q[0],q[1],q[2];\n"
 
 VERIFIED = [
@@ -525,6 +528,18 @@ VERIFIED = [
     ("verify", BITS + "reg [a; b]\n---\n" + FULL.replace(".begin", ".begin\nt1 a"), "revc: gate 2 is not X, CX or CCX"),
     ("verify --borrow 1", BITS + "reg [a; b]\n---\n" + FULL, "revc: circuit has 4 lines, needs 5"),
     ("verify --nodes 2", PARTED + UNDONE, "revc: circuit passes 2 nodes"),
+    # Output lines that may hold any bits have variables, behind the inputs and before the borrowed lines
+    ("verify --outputs zero", PARTED + FILE, "verified"),
+    ("verify --outputs any", PARTED + FILE, "verified"),
+    ("verify --outputs=any", "main (a : bool) = a\n---\n" + on_lines("a y w", "t2 a y", "t2 y w", "t2 y w"), "verified"),
+    ("verify", TWICE + COPIED, "verified"),
+    ("verify --outputs any", TWICE + COPIED, "revc: circuit differs at line 4 on 0010"),
+    ("verify", PARTED + READ, "verified"),
+    ("verify --outputs any", PARTED + READ, "revc: circuit differs at line 4 on 101"),
+    ("verify --outputs any --borrow 1", PARTED + FILE, "revc: circuit differs at line 3 on 0001"),
+    # Seven functions: a, b, a && b, the bit c of the output line, !c, and c with b and with a && b added
+    ("verify --outputs any --nodes 7", PARTED + FILE, "verified"),
+    ("verify --outputs any --nodes 6", PARTED + FILE, "revc: circuit passes 6 nodes"),
 ]
 
 # ---- Adders
@@ -641,6 +656,9 @@ WORDS = [(words, BITS + "a && b", worked) for words, worked in [
     ("verify --to qasm", BAD),
     ("verify --lines 4", BAD),
     ("verify --borrow 65", BAD),
+    ("verify --outputs one", BAD),
+    ("verify --outputs any --outputs any", BAD),
+    ("compile --outputs any", BAD),
     ("tidy x", BAD),
     ("tidy --nodes 5", BAD),
     ("run 1 --from=real -- -1", "revc: circuit line 1"),

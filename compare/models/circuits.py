@@ -3,11 +3,13 @@
 It is written from docs/LANGUAGE.md and docs/FORMATS.md, and shares nothing with the compiler.
 """
 from itertools import chain
-from typing import Iterable, List, NamedTuple, Sequence
+from typing import Callable, Iterable, List, NamedTuple, Sequence
 
 from models.language import Program, Run
 from models.plans import Plan
 from models.real import Circuit, Gate
+
+WordsOf = Callable[[int], Iterable[Sequence[int]]]  # words of so many bits
 
 # ---- Files that are written
 
@@ -75,17 +77,21 @@ def has_form(circuit: Circuit, roles: Roles) -> bool:
     )
 
 
-def is_clean(circuit: Circuit, program: Program, borrow: int, words: Iterable[Sequence[int]]) -> bool:
+def is_clean(circuit: Circuit, program: Program, borrow: int, words_of: WordsOf) -> bool:
     """Whether the circuit is a clean one with so many borrowed lines: for each word of bits, those of the
-    inputs and then those of the borrowed lines, it gives the program's outputs, keeps the word and leaves each work
-    line at 0."""
+    inputs, of the output lines and of the borrowed lines, it adds the program's outputs to the output lines, keeps the
+    rest of the word and leaves each work line at 0."""
     roles = roles_of(circuit.names)
     if not has_form(circuit, roles) or (roles.inputs, roles.borrowed) != (program.inputs, borrow):
         return False
-    return all(maps_cleanly(circuit, roles, program, list(word)) for word in words)
+    words = words_of(roles.inputs + roles.outputs + roles.borrowed)
+    return all(adds_outputs(circuit, roles, program, list(word)) for word in words)
 
 
-def maps_cleanly(circuit: Circuit, roles: Roles, program: Program, word: List[int]) -> bool:
-    run, borrowed, work = Run(program, word[: roles.inputs]), word[roles.inputs :], [0] * roles.work
-    outputs = [bit for bit, _ in run.outputs]
-    return circuit.run(run.bits + [0] * len(outputs) + work + borrowed) == run.bits + outputs + work + borrowed
+def adds_outputs(circuit: Circuit, roles: Roles, program: Program, word: List[int]) -> bool:
+    inputs, work = word[: roles.inputs], [0] * roles.work
+    held, borrowed = word[roles.inputs : roles.inputs + roles.outputs], word[roles.inputs + roles.outputs :]
+    outputs = [bit for bit, _ in Run(program, inputs).outputs]
+    sums = [bit ^ output for bit, output in zip(held, outputs)]
+    return len(outputs) == roles.outputs and circuit.run(inputs + held + work + borrowed) == (
+        inputs + sums + work + borrowed)

@@ -10,7 +10,7 @@ from models.lean import lean
 from models.plans import Budget, NoIdle, OverGates, OverLines, Plan, Settled, choose, flip, split, width_of
 from models.templates import template_text
 from models.tidied import Flip, tidied
-from models.verdicts import MOST_BYTES, Verdict, first_wide, parted, verdict_on
+from models.verdicts import MOST_BYTES, Start, Verdict, first_wide, parted, verdict_on
 from models.words import Order, order_of
 
 
@@ -174,6 +174,11 @@ def parts_of(order: Order, source: bytes) -> Tuple[Run, real.Circuit]:
     return run_on_zeros(program), circuit_of(order, file)
 
 
+def start_of(order: Order) -> Start:
+    """What an order lets the lines of a circuit hold before the gates."""
+    return Start(order.values["outputs"] == "any", order.values["borrow"])
+
+
 def verdict_of(order: Order, source: bytes) -> Verdict:
     """The verdict on a source's circuit, which has the lines and gates that it may have."""
     run, circuit = parts_of(order, source)
@@ -184,7 +189,7 @@ def verdict_of(order: Order, source: bytes) -> Verdict:
         raise Fault(13, "circuit has %d lines, needs %d" % (count, need))
     if wide is not None:
         raise Fault(14, "gate %d is not X, CX or CCX" % wide)
-    return verdict_on(run, circuit, order.values["borrow"])
+    return verdict_on(run, circuit, start_of(order))
 
 
 def said(line: Optional[int], bits: str) -> bytes:

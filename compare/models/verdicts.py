@@ -1,9 +1,9 @@
 """A model of `verify`: whether a foreign circuit computes a program's outputs and leaves its other lines as they were,
 by the truth tables of its lines.
 
-The variables are the inputs in the order of `claims`, and then the borrowed lines. A line's content is a function of
-them; the first lines are the inputs, then come the outputs and the work lines, which begin at 0, and the last ones are
-borrowed.
+The variables are the inputs in the order of `claims`, then the output lines where these may hold any bits, and then the
+borrowed lines. A line's content is a function of them; the first lines are the inputs, then come the outputs, which
+begin at 0 or hold any bits, and the work lines, which begin at 0, and the last ones are borrowed.
 """
 from functools import partial
 from typing import Callable, Dict, Iterable, List, NamedTuple, Optional, Set, Tuple
@@ -91,24 +91,35 @@ def nodes_of(graph: Graph, tables: Tables, functions: Dict[str, int]) -> Dict[st
     return values
 
 
-class Contents:
-    """What a circuit of narrow gates leaves on its lines and what a run wants there, as functions of the inputs and the
-    borrowed lines; and all functions on the way. The circuit has as many lines as the run wants, or more."""
+class Start(NamedTuple):
+    """What lines may hold before the gates: whether those of the outputs hold any bits, and how many are borrowed."""
 
-    def __init__(self, run: Run, circuit: Circuit, borrow: int, functions_of: Callable[[List[str]], Tables]):
+    is_any: bool
+    borrow: int
+
+
+class Contents:
+    """What a circuit of narrow gates leaves on its lines and what a run wants there, as functions of the inputs, the
+    output lines where these may hold any bits, and the borrowed lines; and all functions on the way. The circuit has as
+    many lines as the run wants, or more."""
+
+    def __init__(self, run: Run, circuit: Circuit, start: Start, functions_of: Callable[[List[str]], Tables]):
         inputs = ["x%d" % number for number in range(len(run.bits))]
-        borrowed = ["b%d" % number for number in range(borrow)]
-        self.names = inputs + borrowed
-        self.functions = functions_of(variable_order(run.program) + borrowed)
+        held = ["y%d" % number for number in range(len(run.outputs) if start.is_any else 0)]
+        borrowed = ["b%d" % number for number in range(start.borrow)]
+        self.names = inputs + held + borrowed
+        self.functions = functions_of(variable_order(run.program) + held + borrowed)
         self.variables = dict(zip(self.functions.variables, self.functions.inputs))
         self.writes = dict(self.variables)
         for number, write in enumerate(run.writes):
             self.writes["w%d" % number] = value_of(write, self.functions, self.writes)
         outputs, zero = [self.writes[name] for _, name in run.outputs], self.functions.false
-        work = [zero] * (len(circuit.names) - len(self.names) - len(outputs))
+        work = [zero] * (len(circuit.names) - len(inputs) - len(outputs) - len(borrowed))
         kept, back = [self.variables[name] for name in inputs], [self.variables[name] for name in borrowed]
-        self.wanted, self.contents = kept + outputs + work + back, kept + [zero] * len(outputs) + work + back
-        self.seen = set(self.contents)
+        before = [self.variables[name] for name in held] or [zero] * len(outputs)
+        sums = [bit ^ output for bit, output in zip(before, outputs)]
+        self.wanted, self.contents = kept + sums + work + back, kept + before + work + back
+        self.seen = set(self.contents + self.wanted)
         for controls, (target,) in circuit.gates:
             flips = self.functions.true
             for line, _ in controls:
@@ -125,9 +136,9 @@ class Contents:
         return None, ""
 
 
-def verdict_on(run: Run, circuit: Circuit, borrow: int) -> Verdict:
+def verdict_on(run: Run, circuit: Circuit, start: Start) -> Verdict:
     """The verdict on a circuit of narrow gates, which has as many lines as the run wants, or more."""
-    on = Contents(run, circuit, borrow, partial(Tables, most=MOST_VARIABLES))
+    on = Contents(run, circuit, start, partial(Tables, most=MOST_VARIABLES))
     nodes = nodes_of(Graph(run), on.functions, on.variables)
     most, least = (count_of(on.seen.union(each.values()), len(on.names)) for each in (on.writes, nodes))
     return Verdict(most, least, *on.difference())

@@ -61,7 +61,7 @@ COMMANDS = {
     "run": (FROM, 1, None),
     "convert": ({**FROM, **TO}, 0, 0),
     "gen": ({}, 1, 1),
-    "verify": ({**FROM, **NODES, "borrow": PLANNED["borrow"]}, 0, 0),
+    "verify": ({**FROM, **NODES, "borrow": PLANNED["borrow"], "outputs": choice("zero", "any")}, 0, 0),
     "tidy": ({**FROM, **TO}, 0, 0),
     "arith": (ARITH, 2, 2),
     "bench": ({**NODES, **{name: PLANNED[name] for name in PLANNED if name != "format"}}, 1, 1),
