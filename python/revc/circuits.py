@@ -107,18 +107,21 @@ class Circuit:
         """What the circuit puts out for numbers; it is refused where it does not leave its other lines as it should."""
         return self.run_many([dict(zip([name for name, _ in self.source.params], args), **named)])[0]
 
-    def run_many(self, rows: Sequence[Dict[str, int]]) -> List[Any]:
-        """The same for many rows of numbers at once."""
+    def run_many(self, rows: Sequence[Dict[str, int]], form: str = "real") -> List[Any]:
+        """The same for many rows of numbers at once, by the `.real` file or, with "qasm", by the OpenQASM one."""
         loan = "".join("10"[i % 2] for i in range(self.borrowed))  # borrowed lines may hold anything
-        words = [self.source.word(row) + loan for row in rows]
         inputs, outputs, answers = self.source.inputs, self.source.outputs, []
+        zeros = "0" * (self.lines - inputs - self.borrowed)
+        given = "" if form == "real" else zeros  # an OpenQASM file has no marks of the lines that start at 0
+        words = [self.source.word(row) + given + loan for row in rows]
+        text = (self.real if form == "real" else self.qasm).encode()
         size = max(1, WORDS // (len(words[0]) + 1)) if words else 1
         for at in range(0, len(words), size):
             some = words[at:at + size]
-            for word, line in zip(some, program.call(["run", *some], self.real.encode()).decode().split()):
+            for word, line in zip(some, program.call(["run", "--from", form, *some], text).decode().split()):
                 out = line[inputs:inputs + outputs]
-                if line != word[:inputs] + out + "0" * (self.lines - inputs - outputs - self.borrowed) + loan:
-                    raise RevcError("the circuit is not clean on %s" % self.source.assignment(word))
+                if line != word[:inputs] + out + zeros[outputs:] + loan:
+                    raise RevcError("the circuit is not clean on %s" % self.source.assignment(word[:inputs]))
                 answers.append(self.source.value(out))
         return answers
 

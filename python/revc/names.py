@@ -73,6 +73,8 @@ def stores(code: CodeType) -> Iterator[Tuple[int, Tuple[str, Any]]]:
         elif loads(now) and (rest[2:3] == ["STORE_SUBSCR"] and rest[1].startswith("LOAD_")
                              or rest[-1] == "STORE_SUBSCR" and all(one.startswith("LOAD_") for one in rest[1:3])):
             yield before.offset, ("store", now.argval)
+        elif isinstance(now.argval, tuple) and rest[1:2] == ["STORE_SUBSCR"]:  # 3.13 loads the list and the place in one
+            yield before.offset, ("store", now.argval[0])
         elif pushed and rest[:2] in (["CALL", "POP_TOP"], ["CALL_METHOD", "POP_TOP"]) and now.argval == 1:
             yield before.offset, ("store", pushed)
             pushed = None

@@ -1,0 +1,27 @@
+"""Whole ciphers and hashes: their circuits give the published vectors, in both formats, and their texts are those kept."""
+import sys
+import unittest
+from pathlib import Path
+
+sys.path.insert(0, str(Path(__file__).resolve().parent.parent / "examples"))
+
+from whole import FOLDER, WHOLE
+
+
+class Wholes(unittest.TestCase):
+    @unittest.skipUnless((3, 8) <= sys.version_info < (3, 14), "another Python may know fewer of the author's names")
+    def test_texts(self) -> None:
+        for each in WHOLE:
+            self.assertEqual((FOLDER / (each.oracle.name + ".revs")).read_text(), each.oracle.text, each.oracle.name)
+            self.assertLess(len(each.oracle.text), 65536)
+
+    def test_vectors(self) -> None:
+        for each in WHOLE:
+            circuit, cases = each.oracle.compile(), each.cases()
+            for form in ("real", "qasm"):
+                found = circuit.run_many([row for row, _ in cases], form)
+                self.assertEqual(found, [wanted for _, wanted in cases], "%s, %s" % (each.oracle.name, form))
+
+
+if __name__ == "__main__":
+    unittest.main()
