@@ -47,17 +47,26 @@ def mixed_column(a, b, c, d):
     return [doubled(s[i] ^ s[(i + 1) % 4]) ^ s[(i + 1) % 4] ^ (s[(i + 2) % 4] ^ s[(i + 3) % 4]) for i in range(4)]
 
 
-@oracle
-def aes128(key: Bits[128], text: Bits[128]):
-    k, constant = key.split(8), 1
-    s = [x ^ y for x, y in zip(text.split(8), k)]
+def encrypted(key, texts):
+    """The bytes of the cipher texts, of those of a key and of several texts; the round keys are computed once."""
+    k, constant = list(key), 1
+    states = [[x ^ y for x, y in zip(text, k)] for text in texts]
     for i in range(10):
         for j in range(16):
             k[j] = k[j] ^ (k[j - 4] if j > 3 else sbox(k[12 + (j + 1) % 4]) ^ (constant if j == 0 else 0))
         constant = constant << 1 ^ (0x11b if constant & 0x80 else 0)
-        s = [sbox(x) for x in s]
-        s = [s[5 * j % 16] for j in range(16)]
-        if i < 9:
-            s = [x for c in range(4) for x in mixed_column(*s[4 * c:4 * c + 4])]
-        s = [x ^ y for x, y in zip(s, k)]
-    return s
+        states = [encryption_round(s, k, i == 9) for s in states]
+    return states
+
+
+def encryption_round(s, k, is_last):
+    s = [sbox(x) for x in s]
+    s = [s[5 * j % 16] for j in range(16)]
+    if not is_last:
+        s = [x for c in range(4) for x in mixed_column(*s[4 * c:4 * c + 4])]
+    return [x ^ y for x, y in zip(s, k)]
+
+
+@oracle
+def aes128(key: Bits[128], text: Bits[128]):
+    return encrypted(key.split(8), [text.split(8)])[0]

@@ -88,9 +88,11 @@ KEY, PLAIN = "000102030405060708090a0b0c0d0e0f", "00112233445566778899aabbccddee
 PRIMES = [dict(x=65519, y=65521), dict(x=65521, y=65519)]
 
 WHOLE = [
-    Whole(speck32_64, "Speck32/64, whole", [(dict(text=0x6574694c, key=0x1918111009080100), 0xa86842f2)]),
+    Whole(speck32_64, "Speck32/64, whole", [(dict(text=0x6574694c, key=0x1918111009080100), 0xa86842f2)],
+          budgets=[("lean", 0), ("lean", 935), ("lean", 704)]),
     Whole(simon64_128, "Simon64/128, whole", [
-        (dict(text=0x656b696c20646e75, key=0x1b1a1918131211100b0a090803020100), 0x44c8fc20b9dfa07a)]),
+        (dict(text=0x656b696c20646e75, key=0x1b1a1918131211100b0a090803020100), 0x44c8fc20b9dfa07a)],
+          budgets=[("lean", 0), ("lean", 1821), ("lean", 1152)]),
     Whole(ascon_p12, "Ascon-p12", [(dict(state=0x00400c0000000100), [
         0xee9398aadb67f03d, 0x8bb21831c60f1002, 0xb48a92db98d5da62, 0x43189921b8f8e3e8, 0x348fa5c9d525e140])]),
     Whole(keccak_f200, "Keccak-f[200]", [
@@ -102,7 +104,7 @@ WHOLE = [
     Whole(aes128, "AES-128", [
         (dict(key=lowest_first(KEY), text=lowest_first(PLAIN)), in_bytes("69c4e0d86a7b0430d8cdb78070b4c55a")),
         (dict(key=lowest_first("2b7e151628aed2a6abf7158809cf4f3c"), text=lowest_first("3243f6a8885a308d313198a2e0370734")),
-         in_bytes("3925841d02dc09fbdc118597196a0b32"))]),
+         in_bytes("3925841d02dc09fbdc118597196a0b32"))], budgets=[("lean", 0), ("lean", 5000), ("lean", 2300)]),
     Whole(chacha20, "ChaCha20, the block function", [
         (dict(key=lowest_first("".join("%02x" % i for i in range(32))), counter=1,
               nonce=lowest_first("000000090000004a00000000")),
@@ -115,11 +117,13 @@ WHOLE = [
                                                                     hashed_block(bytes(range(55)))]),
     Whole(sha256_preimage, "SHA-256 of 16 bytes: are 64 bits of the digest the sought ones?", [
         begins(b"a secret of 16 b"), begins(b"a secret of 16 c"), begins(bytes(16))]),
-    Whole(multiply32, "multiplication, 32 by 32 bits", compute=lambda x, y: x * y),
+    Whole(multiply32, "multiplication, 32 by 32 bits", compute=lambda x, y: x * y,
+          budgets=[("lean", 0), ("lean", 1311), ("lean", 628)]),
     Whole(add_modulo, "addition modulo 2^32 - 5, of numbers below", compute=lambda x, y: (x + y) % MODULUS, below=MODULUS),
     Whole(factors16, "x * y == 65519 * 65521, of 16 bits each", compute=lambda x, y: int(x * y == 65519 * 65521),
-          right=PRIMES),
-    Whole(weight64, "Hamming weight of 64 bits", compute=lambda x: bin(x).count("1")),
+          right=PRIMES, budgets=[("lean", 0), ("lean", 373), ("lean", 180)]),
+    Whole(weight64, "Hamming weight of 64 bits", compute=lambda x: bin(x).count("1"),
+          budgets=[("lean", 0), ("lean", 144), ("lean", 119)]),
 ]
 
 

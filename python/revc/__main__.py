@@ -56,7 +56,15 @@ def source_of(path: str) -> Source:
 def oracle_of(file: str, name: str) -> Oracle:
     text_of(file)  # so that a missing file is said
     sys.path.insert(0, os.path.dirname(os.path.abspath(file)))
-    found = {key: value for key, value in runpy.run_path(file).items() if isinstance(value, Oracle)}
+    try:
+        space = runpy.run_path(file)
+    except RevcError:
+        raise
+    except SyntaxError as error:
+        raise RevcError("%s:%s: %s: %s" % (error.filename, error.lineno, error.msg, (error.text or "").strip())) from None
+    except Exception as error:
+        raise RevcError("%s: %s%s" % (type(error).__name__, error, place_of(error))) from None
+    found = {key: value for key, value in space.items() if isinstance(value, Oracle)}
     if name and name not in found:
         raise RevcError("%s has no oracle `%s`: %s" % (file, name, ", ".join(found) or "mark a function with @oracle"))
     if not name and len(found) != 1:
@@ -266,7 +274,8 @@ def main(words: Optional[List[str]] = None) -> int:
     try:
         options.does(options)
     except RevcError as error:
-        sys.stderr.write("%s%s\n" % (error, place_of(error)))
+        place = place_of(error)
+        sys.stderr.write("%s%s\n" % (error, "" if place in str(error) else place))
         return getattr(error, "status", 2)
     except BrokenPipeError:
         return 1

@@ -98,7 +98,8 @@ def bad_circuit(message: str, circuit: str) -> List[str]:
     place = re.search(r"circuit (?:line (\d+)|at (\d+):(\d+))", message)
     if not place:
         return []
-    form = "OpenQASM 2.0 with x, cx and ccx gates alone" if place[2] else "`.real` with tN and fN gates alone"
+    form = ("OpenQASM 2.0 with x, cx and ccx gates alone" if place[2] else
+            "`.real`, whose gates are tN and fN with N different lines of `.variables`")
     means = "this passes a limit of the format" if message.endswith("over a limit") else "no file has this here"
     return pointed(circuit, int(place[1] or place[2]), int(place[3] or 1)) + [
         "%s: the file is read as %s (docs/FORMATS.md)" % (means, form)]

@@ -5,6 +5,7 @@ from pathlib import Path
 
 sys.path.insert(0, str(Path(__file__).resolve().parent.parent / "examples"))
 
+from aes128_key import aes128_key
 from whole import FOLDER, WHOLE
 
 
@@ -21,6 +22,11 @@ class Wholes(unittest.TestCase):
             for form in ("real", "qasm"):
                 found = circuit.run_many([row for row, _ in cases], form)
                 self.assertEqual(found, [wanted for _, wanted in cases], "%s, %s" % (each.oracle.name, form))
+
+    def test_key_search(self) -> None:
+        right = int.from_bytes(bytes(range(16)), "little")
+        found = aes128_key.compile().run_many([dict(key=right), dict(key=right ^ 1), dict(key=0)])
+        self.assertEqual(found, [1, 0, 0])
 
 
 if __name__ == "__main__":
