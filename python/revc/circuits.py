@@ -145,6 +145,9 @@ class Circuit:
         lines = self.qasm.strip().split("\n")
         first = next((i for i, line in enumerate(lines) if line.startswith(("x ", "cx ", "ccx "))), len(lines))
         head, gates = lines[:first], lines[first:]
+        if form == "kickback" and self.plan == "compact":
+            raise RevcError("the output lines of `compact` have to start at 0, and a kickback's does not: phase(\"z\"), or "
+                            "another plan")
         if form == "kickback":
             body = ["x outp[0];", "h outp[0];"] + gates + ["h outp[0];", "x outp[0];"]
         elif form == "z":
