@@ -8,12 +8,12 @@ from subprocess import PIPE, TimeoutExpired
 from subprocess import run as run_process
 from typing import Container, List, Optional
 
-from cases.happy_calls import CALLS, LEAN, LOOPS, UNREAD, answers, known
+from cases.happy_calls import CALLS, LATER_PLANS, LOOPS, UNREAD, answers, known, known_plans
 from cases.random_cases import Case
 from models.claims import TooWide
-from models.commands import NO_ORDER, Answer, answer_of, is_free
+from models.commands import NO_ORDER, Answer, Unmodelled, answer_of, is_free
 from models.words import order_of
-from promises import is_sound
+from promises import is_no_worse, is_sound
 
 SHOWN = 10
 LOOPED = re.compile(rb"(?:[ \t\r\n]|//[^\n]*)*revs\b")
@@ -33,10 +33,10 @@ def is_looped(text: bytes) -> bool:
     return LOOPED.match(text) is not None
 
 
-def is_lean(words: List[str]) -> bool:
-    """Whether words order a lean plan."""
+def plan_of(words: List[str]) -> Optional[str]:
+    """The plan that words order, where they do."""
     order = order_of(words)
-    return order is not None and order.values.get("plan") == "lean"
+    return order.values.get("plan") if order is not None else None
 
 
 class Comparison:
@@ -78,14 +78,19 @@ class Comparison:
         return answers(self.program, LOOPS)
 
     @cached_property
-    def has_lean(self) -> bool:
-        """Whether the program knows lean plans."""
-        return answers(self.program, LEAN)
+    def plans(self) -> Container[str]:
+        """The later plans that the program knows."""
+        return known_plans(self.program)
+
+    def is_of_unknown_plan(self, words: List[str]) -> bool:
+        """Whether words order a plan that the program does not know."""
+        plan = plan_of(words)
+        return plan in LATER_PLANS and plan not in self.plans
 
     def is_passed_over(self, case: Case) -> bool:
         """Whether the case is one of a command, of a profile or of a plan that the program does not know."""
-        is_of_unknown = is_looped(case.text) and not self.has_loops or is_lean(case.words) and not self.has_lean
-        return self.is_unknown(case) or is_of_unknown
+        is_of_loops = is_looped(case.text) and not self.has_loops
+        return self.is_unknown(case) or is_of_loops or self.is_of_unknown_plan(case.words)
 
     def is_unknown(self, case: Case) -> bool:
         """Whether the case is one of a command that the program does not know."""
@@ -98,7 +103,7 @@ class Comparison:
         answer = self.answer(case)
         try:
             model = self.model_of(case)
-        except TooWide:
+        except (TooWide, Unmodelled):
             self.unmodelled += 1
             model = answer
         if answer != model and is_free(case.words, case.text, answer):
@@ -107,4 +112,13 @@ class Comparison:
             self.differs(case, title, repr(case.text[:300]), answer, "the model: %s" % (model,))
         elif not is_sound(case.words, case.text, answer):
             self.differs(case, title + ", by its meaning", repr(case.text[:300]), answer)
+        elif plan_of(case.words) == "compact" and case.words[0] == "compile":
+            self.try_beside_lean(case, answer, title)
         return name_of(answer)
+
+    def try_beside_lean(self, case: Case, answer: Answer, title: str) -> None:
+        """A compact circuit beside the lean one."""
+        words = [word.replace("compact", "lean") for word in case.words]
+        lean = self.answer(Case(words, case.text))
+        if not is_no_worse(order_of(case.words), answer, lean):
+            self.differs(case, title + ", beside the lean plan", repr(case.text[:300]), answer, lean)

@@ -28,8 +28,9 @@ def is_installed() -> bool:
     return shutil.which(ABC) is not None
 
 
-def judged(program: str, seed: int) -> Iterator[Tuple[str, str, List[List[str]]]]:
-    """A title of each netlist, its program, and the words of `compile` under which the judge finds another file."""
+def judged(program: str, orders: List[List[str]], seed: int) -> Iterator[Tuple[str, str, List[List[str]]]]:
+    """A title of each netlist, its program, and those of the words of `compile` under which the judge finds another
+    file."""
     random = Random(seed)
     with TemporaryDirectory() as folder:
         netlists = [(file.name, file.read_text()) for file in sorted(EXAMPLES.glob("*.blif"))]
@@ -37,7 +38,7 @@ def judged(program: str, seed: int) -> Iterator[Tuple[str, str, List[List[str]]]
         netlists += [("netlist %d of seed %d" % (number, seed), random_netlist(random)) for number in range(RANDOM)]
         for title, netlist in netlists:
             text = output_of([str(FROM_BLIF)], netlist)
-            files = [(order, output_of([program, "compile"] + order, text)) for order in ORDERS]
+            files = [(order, output_of([program, "compile"] + order, text)) for order in orders]
             yield title, text, [order for order, file in files if not is_equal(folder, netlist, file)]
 
 

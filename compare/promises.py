@@ -11,7 +11,7 @@ from models.commands import READERS as CIRCUITS
 from models.commands import MOST_TIDIED, Answer, answer_of, budget_of, circuit_of, flips_of, parts_of, run_on_zeros
 from models.commands import split_of, start_of
 from models.language import Program, Run, program_of
-from models.plans import Budget, Numbers
+from models.plans import LEAN_PLANS, Budget, Numbers
 from models.templates import inputs_of, wanted
 from models.templates import words_of as numbers_of
 from models.tidied import is_tidy
@@ -67,14 +67,26 @@ def is_arithmetic(order: Order, file: bytes) -> bool:
 
 
 def has_few(order: Order, text: bytes, file: bytes) -> bool:
-    """Whether a lean circuit has two Toffoli gates at most for each AND of its program, where the row of lean plans
-    fits."""
+    """Whether a lean or compact circuit has two Toffoli gates at most for each AND of its program, where the row of lean
+    plans fits."""
     run = run_on_zeros(text)
-    if order.values["plan"] != "lean" or not Numbers(run).lean.fits(budget_of(order)):
+    if order.values["plan"] not in LEAN_PLANS or not Numbers(run).lean.fits(budget_of(order)):
         return True
-    gates = READERS[order.values["format"]](file).gates
     products = sum(write.operator == "&&" for write in run.writes)
-    return sum(len(gate.controls) == 2 for gate in gates) <= 2 * products
+    return toffoli_gates(order, file) <= 2 * products
+
+
+def is_no_worse(order: Order, compact: Answer, lean: Answer) -> bool:
+    """Whether there is a compact circuit where there is a lean one, with no more Toffoli gates than that has; and what is
+    said where there is none is what is said of the lean one."""
+    if compact.status != 0:
+        return compact == lean
+    return lean.status != 0 or toffoli_gates(order, compact.out) <= toffoli_gates(order, lean.out)
+
+
+def toffoli_gates(order: Order, file: bytes) -> int:
+    """How many Toffoli gates a compiled file has."""
+    return sum(len(gate.controls) == 2 for gate in READERS[order.values["format"]](file).gates)
 
 
 def is_same(circuit: real.Circuit, other: real.Circuit) -> bool:
@@ -139,9 +151,9 @@ def may_refuse(order: Order, run: Run, answer: Answer) -> bool:
     budget, plan, numbers = budget_of(order), order.values["plan"], Numbers(run)
     if any(row.fits(budget) for row in numbers.rows(plan)):
         return False
-    cause = {"eager": numbers.eager, "lean": numbers.lean}.get(plan, numbers.fine)
+    cause = {"eager": numbers.eager, "lean": numbers.lean, "compact": numbers.lean}.get(plan, numbers.fine)
     if answer.status == 7:
-        return plan == "lean" or budget.gates < cause.gates
+        return plan in LEAN_PLANS or budget.gates < cause.gates
     return needed(answer) == need(run, budget) and budget.lines < cause.lines + budget.borrow
 
 

@@ -27,13 +27,19 @@ CALLS: Dict[str, Call] = {
     "arith": Call(["arith", "mul", "1", "--by", "3"], b""),
 }
 LOOPS = Call(["eval", "1"], b"revs 2 main (a : bool) = a")
-LEAN = Call(["compile", "--plan", "lean"], AND)
+LATER_PLANS = ("lean", "compact")  # which a program may not know
 UNREAD = ("gen", "bench", "arith")  # the commands that read no source
 
 
 def answers(program: str, call: Call) -> bool:
     """Whether the program gives what it is asked for."""
     return run_process([program] + call.words, input=call.text, stdout=DEVNULL, stderr=DEVNULL).returncode == 0
+
+
+def known_plans(program: str) -> Dict[str, Call]:
+    """A call for each of the later plans that the program knows."""
+    calls = {plan: Call(["compile", "--plan", plan], AND) for plan in LATER_PLANS}
+    return {plan: call for plan, call in calls.items() if answers(program, call)}
 
 
 def known(program: str) -> Dict[str, Call]:

@@ -6,7 +6,7 @@ from typing import List, Optional, Sequence, Tuple
 from models.graphs import Graph
 from models.language import Run
 from models.lean import lean_tries
-from models.plans import Budget, Numbers, OverGates, OverLines, Row, Settled, split, tries, weight
+from models.plans import LEAN_PLANS, Budget, Numbers, OverGates, OverLines, Row, Settled, split, tries, weight
 
 PLANS = ["auto", "eager", "pebble"]
 GREATEST = Budget(16_384, 4_000_000)
@@ -91,7 +91,7 @@ def needs(run: Run, plan: str, borrow: int) -> List[Row]:
     """What the plans that are tried take, before and after the split, and the rows that are enough by the numbers."""
     taken, settled, makes = [], Settled(len(run.bits), Graph(run)), []
     if len(run.writes) <= MOST_WRITES:
-        makes = lean_tries(settled, GREATEST) if plan == "lean" else tries(settled, GREATEST, plan)
+        makes = lean_tries(settled, GREATEST) if plan in LEAN_PLANS else tries(settled, GREATEST, plan)
     for make in makes:
         try:
             made = make()

@@ -64,7 +64,7 @@ class Lean(Compile):
 
     def __init__(self, seed: int):
         super().__init__(seed)
-        self.budgets = Budgets(self.programs.random, ["lean"])
+        self.budgets = Budgets(self.programs.random, [self.name])
 
     def rest(self, text: bytes, inputs: int) -> List[str]:
         return self.budgets.options(run_of(text))
@@ -72,6 +72,12 @@ class Lean(Compile):
     def case(self) -> Case:
         words, text = super().case()
         return Case(["compile"] + words[1:], text)
+
+
+class Compact(Lean):
+    """`compile --plan compact`."""
+
+    name = "compact"
 
 
 class Check(OnPrograms):
@@ -277,4 +283,4 @@ class Words:
         return Case(words, texts.get("".join(words[:1]), FIVE).encode())
 
 
-COMPARED = [Compile, Lean, Check, Eval, Loops, Stat, Run, Convert, Tidy, Verify, Bench, Arith, Words]
+COMPARED = [Compile, Lean, Compact, Check, Eval, Loops, Stat, Run, Convert, Tidy, Verify, Bench, Arith, Words]

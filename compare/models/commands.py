@@ -81,9 +81,15 @@ def budget_of(order: Order) -> Budget:
     return Budget(*(order.values[name] for name in Budget._fields))
 
 
+class Unmodelled(Exception):
+    """A compact plan is wanted: no model makes it, and what is written is judged by its meaning."""
+
+
 def planned(order: Order, text: bytes) -> Tuple[Run, Plan]:
     """The run of a text's program, whose claims hold on all inputs, and the plan of its circuit."""
     run, budget, plan = settled_run(order, run_on_zeros(text)), budget_of(order), order.values["plan"]
+    if plan == "compact":
+        raise Unmodelled()
     settled = Settled(len(run.bits), Graph(run))
     try:
         return run, lean(settled, budget) if plan == "lean" else choose(settled, budget, plan)

@@ -15,6 +15,7 @@ from models.real import Gate
 
 MOST_MONOMIALS = 64
 MOST_COUNTED = 512  # of a write, for the eager numbers
+LEAN_PLANS = ("compact", "lean")  # those over the lean graph, which have one row
 
 
 class Budget(NamedTuple):
@@ -483,7 +484,7 @@ class Numbers:
 
     def rows(self, plan: str) -> List[Row]:
         """The rows of which one that fits is enough under a plan."""
-        if plan in ("eager", "lean"):
+        if plan in LEAN_PLANS or plan == "eager":
             return [self.eager if plan == "eager" else self.lean]
         pebbled = [self.plain, self.fine, *self.blocks]
         return pebbled + [self.eager] if plan == "auto" else pebbled

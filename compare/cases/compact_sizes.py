@@ -1,0 +1,71 @@
+"""What compact circuits of known functions come to at most."""
+from pathlib import Path
+from typing import Callable, List, NamedTuple, Optional
+
+from cases import long_texts
+from models.adders import adder_text
+
+EXAMPLES = Path(__file__).resolve().parent.parent.parent / "examples"
+
+
+class Size(NamedTuple):
+    lines: int
+    gates: int
+    toffoli: int
+
+
+class Sized(NamedTuple):
+    """A program, and what its compact circuit comes to at most, on so many lines, or as many as there are."""
+
+    title: str
+    text: Callable[[], bytes]
+    most: Size
+    lines: Optional[int] = None
+
+    def words(self) -> List[str]:
+        lines = 16_384 if self.lines is None else self.lines
+        return ["compile", "--plan", "compact", "--gates", "4000000", "--lines", str(lines)]
+
+
+def example(name: str) -> Callable[[], bytes]:
+    return (EXAMPLES / (name + ".revs")).read_bytes
+
+
+def sum_of_32() -> bytes:
+    return adder_text(32)
+
+
+def product_of_16() -> bytes:
+    return long_texts.multiplier(16)
+
+
+def eight_rounds() -> bytes:
+    return long_texts.sha256(8)
+
+
+def keccak_800(rounds: int) -> Callable[[], bytes]:
+    return lambda: long_texts.keccak(rounds, 32)
+
+
+SIZES = [
+    Sized("the sum of two 32-bit numbers", sum_of_32, Size(97, 251, 32)),
+    Sized("multiplier4", example("multiplier4"), Size(36, 142, 48)),
+    Sized("a multiplier, 16 by 16 bits", product_of_16, Size(528, 3_478, 960)),
+    Sized("a multiplier, 16 by 16 bits", product_of_16, Size(300, 6_896, 1_432), 300),
+    Sized("a multiplier, 16 by 16 bits", product_of_16, Size(190, 9_354, 1_672), 190),
+    Sized("a multiplier, 16 by 16 bits", product_of_16, Size(150, 10_046, 1_732), 150),
+    Sized("speck", example("speck"), Size(80, 209, 15)),
+    Sized("sha256", example("sha256"), Size(724, 3_694, 430)),
+    Sized("the S-box of AES", long_texts.aes_sbox, Size(29, 358, 50)),
+    Sized("AES-128", long_texts.aes, Size(3_338, 220_318, 13_240)),
+    Sized("AES-128", long_texts.aes, Size(2_048, 252_058, 17_848), 2_048),
+    Sized("AES-128", long_texts.aes, Size(1_570, 262_110, 19_544), 1_570),
+    Sized("AES-128", long_texts.aes, Size(1_280, 392_818, 28_664), 1_280),
+    Sized("eight rounds of SHA-256", eight_rounds, Size(3_188, 41_634, 4_701)),
+    Sized("eight rounds of SHA-256", eight_rounds, Size(2_048, 57_470, 7_375), 2_048),
+    Sized("the compression of SHA-256", long_texts.sha256, Size(16_384, 506_146, 59_610)),
+    Sized("the compression of SHA-256", long_texts.sha256, Size(8_192, 627_132, 78_128), 8_192),
+    Sized("the compression of SHA-256", long_texts.sha256, Size(5_000, 736_507, 84_760), 5_000),
+    Sized("a round of Keccak-f[800]", keccak_800(1), Size(1_728, 11_293, 800)),
+    Sized("22 rounds of Keccak-f[800]", keccak_800(22), Size(11_829, 507_144, 34_400)),
+]
