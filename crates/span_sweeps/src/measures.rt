@@ -1,0 +1,118 @@
+// What a plan costs, as far as a sweep tells.
+use crate::events::{End, Event, Toggle};
+use crate::graph::SpanGraph;
+use span_rows::{Row, Stop, number};
+
+/// The work lines and the gates of a plan. The CX gates are those of its replay, but that some of
+/// them are then saved.
+#[derive(Clone, Copy)]
+pub struct Measures {
+    pub work: u32,
+    pub toffoli: u64,
+    pub cx: u64,
+}
+
+impl Measures {
+    /// Those of these events, between these rows of inputs and ends.
+    pub fn of(
+        graph: &SpanGraph,
+        events: &[Event],
+        first: &[(Row, Vec<u32>)],
+        ends: &[End],
+    ) -> Result<Measures, Stop> {
+        let mut count = Count {
+            held: 0,
+            block: None,
+            measures: Measures {
+                work: 0,
+                toffoli: 0,
+                cx: 0,
+            },
+        };
+        for (_, vector) in first {
+            count.add_cx(2, vector.len().saturating_sub(1));
+        }
+        for end in ends {
+            count.add_cx(1, end.rows.len());
+        }
+        for event in events {
+            count.add(graph, event)?;
+        }
+        Ok(count.measures)
+    }
+}
+
+// What was counted, and the work lines that are held.
+#[derive(Clone, Copy)]
+struct Count {
+    held: u32,
+    /// Of the block, where it is in one, the work lines that are held in the end.
+    block: Option<u32>,
+    measures: Measures,
+}
+
+impl Count {
+    fn add(&mut self, graph: &SpanGraph, event: &Event) -> Result<(), Stop> {
+        if let Some(toggle) = event.toggle() {
+            self.add_toggle(toggle);
+        }
+        // What a block does is undone twice: at its end, and on the way back.
+        let times = if self.block.is_some() { 4 } else { 2 };
+        match event {
+            Event::On {
+                toggle,
+                is_fresh,
+                ..
+            } => {
+                let has_home = graph.node(toggle.node)?.home.is_some();
+                self.add_toffoli(if has_home { 1 } else { times }, toggle)?;
+                if *is_fresh && !has_home {
+                    self.hold(1);
+                }
+            }
+            Event::Off { toggle, .. } => {
+                self.add_toffoli(times, toggle)?;
+                self.held = self.held.saturating_sub(1);
+            }
+            Event::Final { toggle } => self.add_toffoli(1, toggle)?,
+            Event::Part { toggle, .. } => self.add_toffoli(2, toggle)?,
+            Event::Open { rows } => {
+                self.hold(number(rows.len())?);
+                self.block = Some(self.held);
+            }
+            Event::Close { .. } => {
+                self.held = self.block.take().ok_or(Stop::Lost)?;
+            }
+        }
+        Ok(())
+    }
+
+    // So many work lines more are held.
+    fn hold(&mut self, lines: u32) {
+        self.held = self.held.saturating_add(lines);
+        self.measures.work = self.measures.work.max(self.held);
+    }
+
+    // The products of a toggle, so many times.
+    fn add_toffoli(&mut self, times: u64, toggle: &Toggle) -> Result<(), Stop> {
+        let products = u64::from(number(toggle.factors.len())?);
+        let gates = products.saturating_mul(times);
+        self.measures.toffoli = self.measures.toffoli.saturating_add(gates);
+        Ok(())
+    }
+
+    // The additions of a toggle and of what is gathered for it, there and back.
+    fn add_toggle(&mut self, toggle: &Toggle) {
+        self.add_cx(2, toggle.before.len());
+        self.add_cx(2, toggle.after.len());
+        for factors in &toggle.factors {
+            self.add_cx(4, factors.first.len().saturating_sub(1));
+            self.add_cx(4, factors.second.len().saturating_sub(1));
+        }
+    }
+
+    fn add_cx(&mut self, times: u64, count: usize) {
+        let gates = (count as u64).saturating_mul(times);
+        self.measures.cx = self.measures.cx.saturating_add(gates);
+    }
+}

@@ -1,0 +1,146 @@
+// Sweeps over a schedule, from its end.
+use crate::events::{End, Event};
+use crate::graph::SpanGraph;
+use crate::measures::Measures;
+use crate::schedules::Turn;
+use crate::toggles::Sweep;
+use span_rows::{Inserted, Row, Rows, Stop, number};
+use std::alloc::Global;
+
+/// What a sweep found.
+#[derive(Drop)]
+pub struct Swept {
+    /// In the order of the schedule.
+    pub events: Vec<Event>,
+    /// How many rows there are in all.
+    pub rows: usize,
+    /// The rows at the beginning, whose vectors are sums of inputs, with these; their heads fall.
+    pub first: Vec<(Row, Vec<u32>)>,
+    pub ends: Vec<End>,
+    /// The rank of the rows before each turn.
+    pub ranks: Vec<u32>,
+    /// The symbols that were added.
+    pub work: u64,
+    pub measures: Measures,
+}
+
+/// Goes over a schedule from its end, and keeps a basis of what is wanted at each moment. `forced`
+/// says of each node whether its rows are to have no other symbol. It is lost where it would add
+/// more than `most` symbols.
+pub fn sweep(
+    alloc: Global,
+    graph: &SpanGraph,
+    turns: &[Turn],
+    forced: &[bool],
+    most: u64,
+) -> Result<Swept, Stop> {
+    let rows = begun_rows(alloc, graph, forced)?;
+    let mut sweep = Sweep {
+        alloc,
+        graph,
+        rows,
+        block: None,
+    };
+    insert_outputs(&mut sweep)?;
+    let ends = ends_of(&mut sweep)?;
+    let mut events = Vec::new(alloc);
+    let mut ranks = Vec::with_capacity(alloc, turns.len())?;
+    for turn in turns.iter().rev() {
+        if let Some(event) = back_over(&mut sweep, *turn)? {
+            events.push(event)?;
+        }
+        ranks.push(sweep.rows.rank())?;
+        if sweep.rows.work() > most {
+            return Err(Stop::Lost);
+        }
+    }
+    events.reverse();
+    ranks.reverse();
+    let first = first_rows(&mut sweep)?;
+    let measures = Measures::of(graph, &events, &first, &ends)?;
+    Ok(Swept {
+        events,
+        rows: sweep.rows.made(),
+        first,
+        ends,
+        ranks,
+        work: sweep.rows.work(),
+        measures,
+    })
+}
+
+// No rows, over the symbols of the graph.
+fn begun_rows(alloc: Global, graph: &SpanGraph, forced: &[bool]) -> Result<Rows, Stop> {
+    let inputs = graph.inputs as usize;
+    let mut linear = vec![in alloc; false; inputs]?;
+    for node in &graph.nodes {
+        linear.push(node.is_linear())?;
+    }
+    let mut alone = vec![in alloc; false; inputs]?;
+    alone.extend_from_slice(forced)?;
+    Rows::new(alloc, linear, alone)
+}
+
+// What is wanted in the end: the nodes that have homes, and the other outputs.
+fn insert_outputs(sweep: &mut Sweep<'_>) -> Result<(), Stop> {
+    let (alloc, graph) = (sweep.alloc, sweep.graph);
+    let mut done = Inserted::none(alloc);
+    for node in &graph.nodes {
+        if node.home.is_some() {
+            sweep.rows.insert(alloc, &node.event, &mut done)?;
+        }
+    }
+    for output in &graph.outputs {
+        if !output.has_home {
+            sweep.rows.insert(alloc, &output.vector, &mut done)?;
+        }
+    }
+    Ok(())
+}
+
+// The rows of the outputs without homes.
+fn ends_of(sweep: &mut Sweep<'_>) -> Result<Vec<End>, Stop> {
+    let (alloc, graph) = (sweep.alloc, sweep.graph);
+    let mut ends = Vec::new(alloc);
+    for (k, output) in graph.outputs.iter().enumerate() {
+        if !output.has_home {
+            let rows = sweep.rows.rows_of(alloc, &output.vector)?;
+            let onto = number(k)?;
+            ends.push(End { onto, rows })?;
+        }
+    }
+    Ok(ends)
+}
+
+// Goes back over a turn.
+fn back_over(sweep: &mut Sweep<'_>, turn: Turn) -> Result<Option<Event>, Stop> {
+    match turn {
+        Turn::Open => sweep.back_over_open().map(Some),
+        Turn::Close(range) => sweep.back_over_close(range).map(Some),
+        Turn::On(place) => back_over_on(sweep, place),
+        Turn::Off(place) if sweep.is_part(place)? => Ok(None),
+        Turn::Off(place) => sweep.back_over_off(place),
+    }
+}
+
+// Goes back over the turn by which a node is made.
+fn back_over_on(sweep: &mut Sweep<'_>, place: u32) -> Result<Option<Event>, Stop> {
+    if sweep.is_part(place)? {
+        return sweep.back_over_part(place);
+    }
+    if sweep.graph.node(place)?.is_final {
+        return sweep.back_over_final(place);
+    }
+    sweep.back_over_on(place)
+}
+
+// The rows whose heads are inputs, from the greatest head down, with their vectors.
+fn first_rows(sweep: &mut Sweep<'_>) -> Result<Vec<(Row, Vec<u32>)>, Stop> {
+    let mut first = Vec::new(sweep.alloc);
+    for input in (0..sweep.graph.inputs).rev() {
+        if let Some(row) = sweep.rows.with_head(input)? {
+            first.push((row, sweep.rows.take(sweep.alloc, row)?))?;
+        }
+    }
+    Ok(first)
+}
