@@ -8,6 +8,9 @@ use std::mem;
 /// The name of a row. A planner keeps each row's vector on a line of its own.
 pub type Row = u32;
 
+/// The most symbols that rows may have together.
+const MOST_HELD: usize = 20_000_000;
+
 /// An addition of one row to another: a CX gate between their lines.
 #[derive(Clone, Copy, PartialEq, Eq)]
 pub struct Add {
@@ -27,8 +30,11 @@ pub struct Rows {
     forced: Vec<bool>,
     /// How many rows have a vector.
     rank: u32,
-    /// The symbols that were added so far.
+    /// The symbols that were added so far, and the most that may be.
     work: u64,
+    most: u64,
+    /// The symbols that the rows have together.
+    held: usize,
     /// What rows held before they changed, since the last call of `note`.
     journal: Option<Vec<(Row, Vec<u32>)>>,
     /// The rows that no addition may change.
@@ -36,8 +42,14 @@ pub struct Rows {
 }
 
 impl Rows {
-    /// No rows, over so many symbols as `linear` has.
-    pub fn new(alloc: Global, linear: Vec<bool>, forced: Vec<bool>) -> Result<Rows, Stop> {
+    /// No rows, over so many symbols as `linear` has. Calls are lost once more than `most` symbols
+    /// were added.
+    pub fn new(
+        alloc: Global,
+        linear: Vec<bool>,
+        forced: Vec<bool>,
+        most: u64,
+    ) -> Result<Rows, Stop> {
         let heads = vec![in alloc; None; linear.len()]?;
         Ok(Rows {
             heads,
@@ -46,6 +58,8 @@ impl Rows {
             forced,
             rank: 0,
             work: 0,
+            most,
+            held: 0,
             journal: None,
             kept: Vec::new(alloc),
         })
@@ -101,6 +115,9 @@ impl Rows {
         let other = at(&self.vectors, row)?;
         let symbols = vector.len().saturating_add(other.len());
         self.work = self.work.saturating_add(symbols as u64);
+        if self.work > self.most {
+            return Err(Stop::Lost);
+        }
         Ok(sum_of(alloc, vector, other)?)
     }
 
@@ -117,6 +134,7 @@ impl Rows {
         if let Some(journal) = &mut self.journal {
             journal.push((row, Vec::from_slice(alloc, &vector)?))?;
         }
+        self.held = self.held.saturating_sub(vector.len());
         self.clear_head(&vector)?;
         Ok(vector)
     }
@@ -127,6 +145,10 @@ impl Rows {
             journal.push((row, Vec::new(alloc)))?;
         }
         self.set_head(&vector, row)?;
+        self.held = self.held.saturating_add(vector.len());
+        if self.held > MOST_HELD {
+            return Err(Stop::Lost);
+        }
         *at_mut(&mut self.vectors, row)? = vector;
         Ok(())
     }
@@ -171,7 +193,9 @@ impl Rows {
     }
 
     fn restore(&mut self, row: Row, vector: Vec<u32>) -> Result<(), Stop> {
+        self.held = self.held.saturating_add(vector.len());
         let now = mem::replace(at_mut(&mut self.vectors, row)?, vector);
+        self.held = self.held.saturating_sub(now.len());
         if !now.is_empty() {
             self.clear_head(&now)?;
         }

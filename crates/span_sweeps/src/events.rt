@@ -22,6 +22,17 @@ pub struct Toggle {
     pub new: Vec<Row>,
 }
 
+impl Toggle {
+    fn size(&self) -> usize {
+        let mut size = self.before.len().saturating_add(self.after.len());
+        for factors in &self.factors {
+            size = size.saturating_add(factors.first.len());
+            size = size.saturating_add(factors.second.len());
+        }
+        size
+    }
+}
+
 /// What becomes of a node at one turn of a schedule.
 #[derive(Drop)]
 pub enum Event {
@@ -68,6 +79,14 @@ pub struct End {
 }
 
 impl Event {
+    /// How many additions, and rows of factors, it notes.
+    pub fn size(&self) -> usize {
+        match self.toggle() {
+            Some(toggle) => toggle.size(),
+            None => 0,
+        }
+    }
+
     /// The toggle, where it is one.
     pub fn toggle(&self) -> Option<&Toggle> {
         match self {

@@ -1,5 +1,5 @@
 // The order of the nodes.
-use bit_sums::Sum;
+use bit_sums::{Product, Sum};
 use dependency_graph::Base;
 use span_rows::{Stop, at, at_mut, number};
 use std::alloc::Global;
@@ -102,6 +102,16 @@ fn inverse(alloc: Global, nodes: &[u32]) -> Result<Vec<u32>, Stop> {
     Ok(places)
 }
 
+// Where a node or an output stands: by this place, an output before a node; outputs at one place by
+// the first bits of their first products, so that those with shared bits stand side by side.
+#[derive(Clone, Copy, PartialEq, Eq, PartialOrd, Ord)]
+struct Key {
+    place: u32,
+    is_node: bool,
+    bits: Option<(Base, Base)>,
+    name: u32,
+}
+
 // The nodes with the outputs that have products among them.
 fn with_outputs(
     alloc: Global,
@@ -111,20 +121,35 @@ fn with_outputs(
 ) -> Result<Vec<u32>, Stop> {
     let mut keys = Vec::with_capacity(alloc, nodes.len())?;
     for (place, node) in nodes.iter().enumerate() {
-        keys.push((number(place)?, true, *node))?;
+        keys.push(Key {
+            place: number(place)?,
+            is_node: true,
+            bits: None,
+            name: *node,
+        })?;
     }
     for (k, output) in graph.outputs().iter().enumerate() {
-        if !output.products().is_empty() {
-            let name = graph.nodes().saturating_add(number(k)?);
-            keys.push((behind_factors(output, places)?, false, name))?;
+        if let Some(product) = output.products().first() {
+            keys.push(Key {
+                place: behind_factors(output, places)?,
+                is_node: false,
+                bits: first_bits(product),
+                name: graph.nodes().saturating_add(number(k)?),
+            })?;
         }
     }
     keys.sort()?;
     let mut names = Vec::with_capacity(alloc, keys.len())?;
-    for (_, _, name) in &keys {
-        names.push(*name)?;
+    for key in &keys {
+        names.push(key.name)?;
     }
     Ok(names)
+}
+
+fn first_bits(product: &Product) -> Option<(Base, Base)> {
+    let first = product.first().first()?;
+    let second = product.second().first()?;
+    Some((*first, *second))
 }
 
 // The least place behind all nodes that are in factors of a sum.

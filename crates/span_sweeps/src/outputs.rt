@@ -7,7 +7,7 @@ use std::alloc::Global;
 use sum_graph::SumGraph;
 
 /// The most symbols that are added to write outputs out.
-const MOST_WORK: usize = 1_000_000_000;
+const MOST_WORK: usize = 20_000_000;
 
 /// The outputs, in their order; their final nodes learn them as targets, and some nodes a home.
 pub fn outputs_of(

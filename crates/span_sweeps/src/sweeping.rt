@@ -7,6 +7,9 @@ use crate::toggles::Sweep;
 use span_rows::{Inserted, Row, Rows, Stop, number};
 use std::alloc::Global;
 
+/// The most additions and rows of factors that a sweep notes. Each is a gate and more.
+const MOST_NOTED: usize = 4_000_000;
+
 /// What a sweep found.
 #[derive(Drop)]
 pub struct Swept {
@@ -26,7 +29,7 @@ pub struct Swept {
 
 /// Goes over a schedule from its end, and keeps a basis of what is wanted at each moment. `forced`
 /// says of each node whether its rows are to have no other symbol. It is lost where it would add
-/// more than `most` symbols.
+/// more than `most` symbols, or note too much.
 pub fn sweep(
     alloc: Global,
     graph: &SpanGraph,
@@ -34,7 +37,7 @@ pub fn sweep(
     forced: &[bool],
     most: u64,
 ) -> Result<Swept, Stop> {
-    let rows = begun_rows(alloc, graph, forced)?;
+    let rows = begun_rows(alloc, graph, forced, most)?;
     let mut sweep = Sweep {
         alloc,
         graph,
@@ -44,13 +47,15 @@ pub fn sweep(
     insert_outputs(&mut sweep)?;
     let ends = ends_of(&mut sweep)?;
     let mut events = Vec::new(alloc);
+    let mut noted: usize = 0;
     let mut ranks = Vec::with_capacity(alloc, turns.len())?;
     for turn in turns.iter().rev() {
         if let Some(event) = back_over(&mut sweep, *turn)? {
+            noted = noted.saturating_add(event.size());
             events.push(event)?;
         }
         ranks.push(sweep.rows.rank())?;
-        if sweep.rows.work() > most {
+        if noted > MOST_NOTED {
             return Err(Stop::Lost);
         }
     }
@@ -70,7 +75,7 @@ pub fn sweep(
 }
 
 // No rows, over the symbols of the graph.
-fn begun_rows(alloc: Global, graph: &SpanGraph, forced: &[bool]) -> Result<Rows, Stop> {
+fn begun_rows(alloc: Global, graph: &SpanGraph, forced: &[bool], most: u64) -> Result<Rows, Stop> {
     let inputs = graph.inputs as usize;
     let mut linear = vec![in alloc; false; inputs]?;
     for node in &graph.nodes {
@@ -78,7 +83,7 @@ fn begun_rows(alloc: Global, graph: &SpanGraph, forced: &[bool]) -> Result<Rows,
     }
     let mut alone = vec![in alloc; false; inputs]?;
     alone.extend_from_slice(forced)?;
-    Rows::new(alloc, linear, alone)
+    Rows::new(alloc, linear, alone, most)
 }
 
 // What is wanted in the end: the nodes that have homes, and the other outputs.
