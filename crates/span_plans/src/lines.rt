@@ -1,0 +1,133 @@
+// Sets of lines, as rising lists, and which lines are free.
+use span_rows::{Stop, at};
+use std::alloc::Global;
+use std::collections::BTreeSet;
+
+/// The lines of `some` that are not among `others`; both rise.
+pub fn without(alloc: Global, some: &[u32], others: &[u32]) -> Result<Vec<u32>, Stop> {
+    let mut rest = Vec::new(alloc);
+    for line in some {
+        if others.binary_search(line).is_err() {
+            rest.push(*line)?;
+        }
+    }
+    Ok(rest)
+}
+
+/// How many of these lines are among `others`, which rise.
+pub fn common(some: &[u32], others: &[u32]) -> usize {
+    some.iter()
+        .filter(|line| others.binary_search(*line).is_ok())
+        .count()
+}
+
+/// Work lines: those that are free, and how many there are.
+#[derive(Drop)]
+pub struct WorkLines {
+    free: BTreeSet<u32>,
+    /// The line behind the work lines that were ever out.
+    behind: u32,
+    /// The line behind those that may be used.
+    limit: u32,
+}
+
+impl WorkLines {
+    /// Work lines from `first` on, up to `limit`.
+    pub fn new(alloc: Global, first: u32, limit: u32) -> WorkLines {
+        WorkLines {
+            free: BTreeSet::new(alloc),
+            behind: first,
+            limit,
+        }
+    }
+
+    /// The line behind the work lines that were ever out.
+    pub fn behind(&self) -> u32 {
+        self.behind
+    }
+
+    /// The least free line.
+    pub fn take(&mut self) -> Result<u32, Stop> {
+        if let Some(line) = self.free.pop_first() {
+            return Ok(line);
+        }
+        let line = self.behind;
+        if line >= self.limit {
+            return Err(Stop::Lost);
+        }
+        self.behind = line + 1;
+        Ok(line)
+    }
+
+    /// The free lines, and the line behind those that were ever out: to be set again by `reset`.
+    pub fn saved(&self, alloc: Global) -> Result<SavedLines, Stop> {
+        let mut free = Vec::with_capacity(alloc, self.free.len())?;
+        for line in &self.free {
+            free.push(*line)?;
+        }
+        Ok(SavedLines {
+            free,
+            behind: self.behind,
+        })
+    }
+
+    /// The lines that were free are so again, and those that were never out then are free.
+    pub fn reset(&mut self, saved: &SavedLines) -> Result<(), Stop> {
+        self.free.clear();
+        for line in &saved.free {
+            self.free.insert(*line)?;
+        }
+        for line in saved.behind..self.behind {
+            self.free.insert(line)?;
+        }
+        Ok(())
+    }
+
+    /// A line is free again.
+    pub fn give(&mut self, line: u32) -> Result<(), Stop> {
+        self.free.insert(line)?;
+        Ok(())
+    }
+}
+
+/// Which work lines were free at a moment.
+#[derive(Drop)]
+pub struct SavedLines {
+    free: Vec<u32>,
+    behind: u32,
+}
+
+/// The lines of rows.
+#[derive(Drop)]
+pub struct RowLines {
+    lines: Vec<Option<u32>>,
+}
+
+impl RowLines {
+    /// So many rows, none of which has a line.
+    pub fn new(alloc: Global, rows: usize) -> Result<RowLines, Stop> {
+        let lines = vec![in alloc; None; rows]?;
+        Ok(RowLines { lines })
+    }
+
+    /// Gives a row its line.
+    pub fn set(&mut self, row: u32, line: u32) -> Result<(), Stop> {
+        *span_rows::at_mut(&mut self.lines, row)? = Some(line);
+        Ok(())
+    }
+
+    /// The line of a row.
+    pub fn line(&self, row: u32) -> Result<u32, Stop> {
+        at(&self.lines, row)?.ok_or(Stop::Lost)
+    }
+
+    /// The lines of rows, rising.
+    pub fn all(&self, alloc: Global, rows: &[u32]) -> Result<Vec<u32>, Stop> {
+        let mut lines = Vec::with_capacity(alloc, rows.len())?;
+        for row in rows {
+            lines.push(self.line(*row)?)?;
+        }
+        lines.sort()?;
+        Ok(lines)
+    }
+}

@@ -1,0 +1,41 @@
+// The span plan of a graph.
+ghost use Rattle.std.specs.Prelude.{IfOk, IfSome};
+ghost use Rattle.held_nodes.specs.Plans.{IsNarrowPlan};
+
+use crate::cancelling::cancelled;
+use crate::replaying::{Replayed, replay_of};
+use crate::scripts::script;
+use crate::searching::best_sweep;
+use circuit_plans::{Budget, Planned};
+use line_states::{Step, follow};
+use revc_base::Memory;
+use span_rows::{Stop, number};
+use span_sweeps::SpanGraph;
+use std::alloc::Global;
+use sum_graph::SumGraph;
+
+/// The best span plan that a search of bounded work finds within a budget, by Toffoli gates, then
+/// by lines times gates, then by lines; none where it finds none.
+pub fn plan(alloc: Global, graph: &SumGraph, budget: &Budget) -> Result<Option<Planned>, Memory>
+    ensures { IfOk result (λ found. IfSome found (IsNarrowPlan graph.now budget.now)) }
+{
+    match steps(alloc, graph, budget) {
+        Ok(steps) => follow(alloc, graph, budget, &steps),
+        Err(Stop::Lost) => Ok(None),
+        Err(Stop::Memory) => Err(Memory),
+    }
+}
+
+// The script of the plan.
+fn steps(alloc: Global, graph: &SumGraph, budget: &Budget) -> Result<Vec<Step>, Stop> {
+    let graph = SpanGraph::of(alloc, graph)?;
+    let ports = graph.inputs.saturating_add(number(graph.outputs.len())?);
+    let taken = ports.saturating_add(budget.borrow());
+    let room = budget.lines().checked_sub(taken).ok_or(Stop::Lost)?;
+    let swept = best_sweep(alloc, &graph, taken, room)?;
+    let limit = ports.saturating_add(room);
+    let Replayed { moves, lines } = replay_of(alloc, &graph, &swept, limit)?;
+    let moves = cancelled(alloc, moves, lines)?;
+    let work = lines.saturating_sub(ports);
+    script(alloc, work, &moves, budget.gates())
+}

@@ -1,0 +1,411 @@
+// The moves of what was swept: forward, the copies to the outputs, and back.
+use crate::factors::{FactorLines, Habits, untangle};
+use crate::lines::{RowLines, SavedLines, WorkLines};
+use crate::moves::{Gathering, Gatherings, Moves};
+use span_rows::{Add, Row, Stop, number};
+use span_sweeps::{End, Event, SpanGraph, Swept, Toggle};
+use std::alloc::Global;
+
+/// The moves of a plan, and how many lines it has.
+#[derive(Drop)]
+pub struct Replayed {
+    pub moves: Moves,
+    pub lines: u32,
+}
+
+// Moves that are not undone on the way back, but have others in their place: copies of lines to
+// one.
+#[derive(Drop)]
+struct Once {
+    from: usize,
+    to: usize,
+    lines: Vec<u32>,
+    onto: u32,
+}
+
+// A block that is open: its first move, the ranges of its moves that stay at its end, and the lines
+// that were free at its beginning.
+#[derive(Drop)]
+struct OpenBlock {
+    first: usize,
+    stay: Vec<(usize, usize)>,
+    lines: SavedLines,
+}
+
+#[derive(Drop)]
+struct Replay<'g> {
+    alloc: Global,
+    graph: &'g SpanGraph,
+    rows: RowLines,
+    work: WorkLines,
+    habits: Habits,
+    moves: Moves,
+    once: Vec<Once>,
+    block: Option<OpenBlock>,
+}
+
+/// The moves of what was swept, on at most so many lines.
+pub fn replay_of(
+    alloc: Global,
+    graph: &SpanGraph,
+    swept: &Swept,
+    limit: u32,
+) -> Result<Replayed, Stop> {
+    let outputs = number(graph.outputs.len())?;
+    let first = graph.inputs.saturating_add(outputs);
+    let mut replay = Replay {
+        alloc,
+        graph,
+        rows: RowLines::new(alloc, swept.rows)?,
+        work: WorkLines::new(alloc, first, limit),
+        habits: Habits::new(alloc, limit)?,
+        moves: Moves::none(alloc),
+        once: Vec::new(alloc),
+        block: None,
+    };
+    replay.begin(swept)?;
+    for event in &swept.events {
+        replay.play(event)?;
+    }
+    let ways = replay.moves.len();
+    replay.copy_ends(swept)?;
+    replay.play_back(ways)?;
+    replay.name_outputs()?;
+    Ok(Replayed {
+        lines: replay.work.behind(),
+        moves: replay.moves,
+    })
+}
+
+impl Replay<'_> {
+    fn output_line(&self, output: u32) -> u32 {
+        self.graph.inputs.saturating_add(output)
+    }
+
+    // The rows of the beginning on the lines of inputs. Their heads fall, so each adds inputs that
+    // are still alone.
+    fn begin(&mut self, swept: &Swept) -> Result<(), Stop> {
+        for (row, vector) in &swept.first {
+            let (head, others) = vector.split_first().ok_or(Stop::Lost)?;
+            self.rows.set(*row, *head)?;
+            self.moves.copies(others, *head)?;
+        }
+        Ok(())
+    }
+
+    fn play(&mut self, event: &Event) -> Result<(), Stop> {
+        match event {
+            Event::On {
+                toggle,
+                row,
+                is_fresh,
+                rest,
+            } => self.play_on(toggle, *row, *is_fresh, rest),
+            Event::Off { toggle, row } => self.play_off(toggle, *row),
+            Event::Final { toggle } => self.play_final(toggle),
+            Event::Open { rows } => self.open(rows),
+            Event::Part { toggle, rows } => self.play_part(toggle, rows),
+            Event::Close { ends, written } => self.close(ends, written),
+        }
+    }
+
+    fn play_on(
+        &mut self,
+        toggle: &Toggle,
+        row: Row,
+        is_fresh: bool,
+        rest: &Option<Vec<Row>>,
+    ) -> Result<(), Stop> {
+        if is_fresh {
+            let line = match self.graph.node(toggle.node)?.home {
+                Some(output) => self.output_line(output),
+                None => self.work.take()?,
+            };
+            self.rows.set(row, line)?;
+        }
+        let onto = self.rows.line(row)?;
+        self.add(&toggle.before)?;
+        let from = self.moves.len();
+        self.toggle(toggle, onto, rest.is_none())?;
+        if let Some(rest) = rest {
+            let lines = self.rows.all(self.alloc, rest)?;
+            self.play_once(from, lines, onto)?;
+        }
+        self.add(&toggle.after)
+    }
+
+    fn play_off(&mut self, toggle: &Toggle, row: Row) -> Result<(), Stop> {
+        let onto = self.rows.line(row)?;
+        self.add(&toggle.before)?;
+        self.toggle(toggle, onto, true)?;
+        self.add(&toggle.after)?;
+        self.work.give(onto)
+    }
+
+    // A final node goes onto the lines of its outputs, once for all.
+    fn play_final(&mut self, toggle: &Toggle) -> Result<(), Stop> {
+        let from = self.moves.len();
+        let mut lines = Vec::new(self.alloc);
+        for output in &self.graph.node(toggle.node)?.targets {
+            lines.push(self.output_line(*output))?;
+        }
+        self.toggle_onto(toggle, &lines)?;
+        self.play_once(from, Vec::new(self.alloc), 0)?;
+        self.add(&toggle.after)
+    }
+
+    // A node of a block goes onto the lines of rows that stay of it.
+    fn play_part(&mut self, toggle: &Toggle, rows: &[Row]) -> Result<(), Stop> {
+        let mut lines = Vec::new(self.alloc);
+        for row in rows {
+            lines.push(self.rows.line(*row)?)?;
+        }
+        self.toggle_onto(toggle, &lines)?;
+        self.add(&toggle.after)
+    }
+
+    // A node goes onto the first line, and from there onto the others. That stays at the end of a
+    // block.
+    fn toggle_onto(&mut self, toggle: &Toggle, lines: &[u32]) -> Result<(), Stop> {
+        let from = self.moves.len();
+        let (onto, others) = lines.split_first().ok_or(Stop::Lost)?;
+        self.copy_to_all(*onto, others)?;
+        self.toggle(toggle, *onto, false)?;
+        self.copy_to_all(*onto, others)?;
+        let to = self.moves.len();
+        if let Some(block) = &mut self.block {
+            block.stay.push((from, to))?;
+        }
+        Ok(())
+    }
+
+    fn copy_to_all(&mut self, from: u32, lines: &[u32]) -> Result<(), Stop> {
+        for line in lines {
+            self.moves.copy(from, *line)?;
+        }
+        Ok(())
+    }
+
+    // A block begins: lines for its rows, and whatever comes behind these is undone at its end.
+    fn open(&mut self, rows: &[Row]) -> Result<(), Stop> {
+        for row in rows {
+            let line = self.work.take()?;
+            self.rows.set(*row, line)?;
+        }
+        self.block = Some(OpenBlock {
+            first: self.moves.len(),
+            stay: Vec::new(self.alloc),
+            lines: self.work.saved(self.alloc)?,
+        });
+        Ok(())
+    }
+
+    // A block ends: its rows take sums of rows, and its moves are undone but for those that stay.
+    fn close(&mut self, ends: &[End], written: &[(Row, u32)]) -> Result<(), Stop> {
+        let OpenBlock { first, stay, lines } = self.block.take().ok_or(Stop::Lost)?;
+        let mut behind = self.moves.len();
+        for end in ends {
+            let sources = self.rows.all(self.alloc, &end.rows)?;
+            self.moves.copies(&sources, self.rows.line(end.onto)?)?;
+        }
+        for part in written {
+            let (row, place) = *part;
+            let line = self.rows.line(row)?;
+            self.name(place, line)?;
+        }
+        for range in stay.iter().rev() {
+            let (from, to) = *range;
+            self.undo(to, behind)?;
+            behind = from;
+        }
+        self.undo(first, behind)?;
+        self.work.reset(&lines)
+    }
+
+    // Moves of a range once more, from the last to the first.
+    fn undo(&mut self, from: usize, to: usize) -> Result<(), Stop> {
+        for place in (from..to).rev() {
+            self.moves.again(place)?;
+        }
+        Ok(())
+    }
+
+    // On the way back, these lines are added to `onto` in the place of all moves since `from`.
+    fn play_once(&mut self, from: usize, lines: Vec<u32>, onto: u32) -> Result<(), Stop> {
+        self.once.push(Once {
+            from,
+            to: self.moves.len(),
+            lines,
+            onto,
+        })?;
+        Ok(())
+    }
+
+    fn add(&mut self, adds: &[Add]) -> Result<(), Stop> {
+        for add in adds {
+            let from = self.rows.line(add.from)?;
+            self.moves.copy(from, self.rows.line(add.to)?)?;
+        }
+        Ok(())
+    }
+
+    // Toggles a node. Lines that only its factors want may keep what is gathered on them
+    // (`leaves`).
+    fn toggle(&mut self, toggle: &Toggle, onto: u32, leaves: bool) -> Result<(), Stop> {
+        let name = self.graph.node(toggle.node)?.name;
+        let mut products = self.factor_lines(toggle)?;
+        if products.len() != 1 {
+            return self.toggle_all(name, onto, &mut products);
+        }
+        let own = if leaves {
+            self.own_lines(toggle)?
+        } else {
+            Vec::new(self.alloc)
+        };
+        for product in &products {
+            self.toggle_one(name, onto, product, &own)?;
+        }
+        Ok(())
+    }
+
+    // The lines of the rows that are new behind a toggle, and in no addition.
+    fn own_lines(&self, toggle: &Toggle) -> Result<Vec<u32>, Stop> {
+        let mut lines = Vec::new(self.alloc);
+        for row in &toggle.new {
+            if !toggle
+                .after
+                .iter()
+                .any(|add| add.from == *row || add.to == *row)
+            {
+                lines.push(self.rows.line(*row)?)?;
+            }
+        }
+        Ok(lines)
+    }
+
+    fn factor_lines(&self, toggle: &Toggle) -> Result<Vec<FactorLines>, Stop> {
+        let mut products = Vec::with_capacity(self.alloc, toggle.factors.len())?;
+        for factors in &toggle.factors {
+            let first = self.rows.all(self.alloc, &factors.first)?;
+            let second = self.rows.all(self.alloc, &factors.second)?;
+            products.push(FactorLines { first, second })?;
+        }
+        Ok(products)
+    }
+
+    // A toggle of one product, whose factors are gathered by copies.
+    fn toggle_one(
+        &mut self,
+        name: u32,
+        onto: u32,
+        product: &FactorLines,
+        own: &[u32],
+    ) -> Result<(), Stop> {
+        let held = self.habits.held(self.alloc, product, own)?;
+        for (from, to) in &held.copies {
+            self.moves.copy(*from, *to)?;
+        }
+        let mut gatherings = Vec::new(self.alloc);
+        gatherings.push(Gatherings {
+            first: alone(self.alloc, held.first),
+            second: alone(self.alloc, held.second),
+        })?;
+        self.moves.toggle(name, onto, gatherings)?;
+        for (from, to) in held.copies.iter().rev() {
+            if !own.contains(to) {
+                self.moves.copy(*from, *to)?;
+            }
+        }
+        Ok(())
+    }
+
+    // A toggle of any number of products: those that have lines of their own are gathered by
+    // copies, and the others for the moment of their flips.
+    fn toggle_all(
+        &mut self,
+        name: u32,
+        onto: u32,
+        products: &mut Vec<FactorLines>,
+    ) -> Result<(), Stop> {
+        let mut copies = self.gather_apart(products)?;
+        copies.append(&mut untangle(self.alloc, products)?)?;
+        let mut gatherings = Vec::with_capacity(self.alloc, products.len())?;
+        for product in products.iter() {
+            gatherings.push(self.habits.gatherings(self.alloc, product)?)?;
+        }
+        for (from, to) in &copies {
+            self.moves.copy(*from, *to)?;
+        }
+        self.moves.toggle(name, onto, gatherings)?;
+        for (from, to) in copies.iter().rev() {
+            self.moves.copy(*from, *to)?;
+        }
+        Ok(())
+    }
+
+    // Gathers each product by copies whose factors come onto lines that no other product has; the
+    // products' lines become those behind the copies.
+    fn gather_apart(&mut self, products: &mut Vec<FactorLines>) -> Result<Vec<(u32, u32)>, Stop> {
+        let mut copies = Vec::new(self.alloc);
+        for k in 0..products.len() {
+            let product = products.get(k).ok_or(Stop::Lost)?;
+            let mut held = self.habits.held(self.alloc, product, &[])?;
+            if held.is_apart(products, k) {
+                *products.get_mut(k).ok_or(Stop::Lost)? = held.lines(self.alloc)?;
+                copies.append(&mut held.copies)?;
+            }
+        }
+        Ok(copies)
+    }
+
+    // What the outputs without homes are the sums of.
+    fn copy_ends(&mut self, swept: &Swept) -> Result<(), Stop> {
+        for end in &swept.ends {
+            let lines = self.rows.all(self.alloc, &end.rows)?;
+            let onto = self.output_line(end.onto);
+            self.moves.copies(&lines, onto)?;
+        }
+        Ok(())
+    }
+
+    // The first moves backward, but for those that have others in their place.
+    fn play_back(&mut self, moves: usize) -> Result<(), Stop> {
+        let mut behind = moves;
+        let all = std::mem::replace(&mut self.once, Vec::new(self.alloc));
+        for once in all.iter().rev() {
+            self.undo(once.to, behind)?;
+            self.moves.copies(&once.lines, once.onto)?;
+            behind = once.from;
+        }
+        self.undo(0, behind)
+    }
+
+    // A node without products takes the place of its bits on a line. That takes no gates.
+    fn name(&mut self, place: u32, onto: u32) -> Result<(), Stop> {
+        let name = self.graph.node(place)?.name;
+        self.moves.toggle(name, onto, Vec::new(self.alloc))
+    }
+
+    // Each output's line holds the bits of its sum, with nodes written out: these are written in
+    // again, and the sum gets its name. That takes no gates.
+    fn name_outputs(&mut self) -> Result<(), Stop> {
+        for (k, output) in self.graph.outputs.iter().enumerate() {
+            let onto = self.output_line(number(k)?);
+            for place in &output.written {
+                self.name(*place, onto)?;
+            }
+            if let Some(name) = output.name {
+                self.moves.toggle(name, onto, Vec::new(self.alloc))?;
+            }
+        }
+        Ok(())
+    }
+}
+
+// A factor that is all that a line holds.
+fn alone(alloc: Global, on: u32) -> Gathering {
+    Gathering {
+        on,
+        others: Vec::new(alloc),
+    }
+}
