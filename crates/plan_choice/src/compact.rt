@@ -27,7 +27,9 @@ pub fn lay_compact(alloc: Global, graph: &Settled, lean: &SumGraph, budget: &Bud
 {
     let tried = lay_lean(alloc, graph, lean, budget);
     let homes = home_plans::plan(alloc, lean, budget)?;
-    or_found(alloc, graph, lean, budget, tried, homes)
+    let better = or_found(alloc, graph, lean, budget, tried, homes);
+    let spans = span_plans::plan(alloc, lean, budget)?;
+    or_found(alloc, graph, lean, budget, better, spans)
 }
 
 // The better of what was tried and of a plan that was found, if one was.

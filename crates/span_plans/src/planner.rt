@@ -1,5 +1,6 @@
 // The span plan of a graph.
 ghost use Rattle.std.specs.Prelude.{IfOk, IfSome};
+ghost use Rattle.circuit_plans.specs.declared.roles.Start.TheVariants.{Zero};
 ghost use Rattle.held_nodes.specs.Plans.{IsNarrowPlan};
 
 use crate::cancelling::cancelled;
@@ -17,7 +18,7 @@ use sum_graph::SumGraph;
 /// The best span plan that a search of bounded work finds within a budget, by Toffoli gates, then
 /// by lines times gates, then by lines; none where it finds none.
 pub fn plan(alloc: Global, graph: &SumGraph, budget: &Budget) -> Result<Option<Planned>, Memory>
-    ensures { IfOk result (λ found. IfSome found (IsNarrowPlan graph.now budget.now)) }
+    ensures { IfOk result (λ found. IfSome found (IsNarrowPlan Zero graph.now budget.now)) }
 {
     match steps(alloc, graph, budget) {
         Ok(steps) => follow(alloc, graph, budget, &steps),
