@@ -114,7 +114,8 @@ WHOLE = [
             "76b8e0ada0f13d90405d6ae55386bd28bdd219b8a08ded1aa836efcc8b770dc7"
             "da41597c5157488d7724e03fb8d84a376a43b8f41518a11cc387b669b2ee6586"))]),
     Whole(sha256_compression, "SHA-256, the compression function", [hashed_block(b"abc"), hashed_block(b""),
-                                                                    hashed_block(bytes(range(55)))]),
+                                                                    hashed_block(bytes(range(55)))],
+          budgets=[("lean", 0), ("lean", 9000), ("lean", 7419)]),
     Whole(sha256_preimage, "SHA-256 of 16 bytes: are 64 bits of the digest the sought ones?", [
         begins(b"a secret of 16 b"), begins(b"a secret of 16 c"), begins(bytes(16))]),
     Whole(multiply32, "multiplication, 32 by 32 bits", compute=lambda x, y: x * y,
