@@ -32,3 +32,6 @@ returns g c =
     not_written _ (order_of c.in-Ok.order) c.in_ok-text.text.items c.deref.result.now (text_of c.in_ok-prepared.prepared) c.in-Ok.ensures.ok
     c.one_outcome.ensures (rw c.limit_of.ensures.limit at c.in_ok-text.ensures.ok) c.deref.ensures.value c.in_ok-prepared.ensures.ok
     c.in-Err-write.ensures.bytes c.in-Err-write.ensures.cause.failed
+
+pub prepare-requires-clause-limits : goal.prepare-requires-clause-limits
+prepare-requires-clause-limits g c = c.orders_are_within_limits.ensures (words_of c.args.words.now) (order_of c.in-Ok.order) c.in-Ok.ensures.ok
