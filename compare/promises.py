@@ -50,7 +50,7 @@ def is_sound(words: List[str], text: bytes, answer: Answer) -> bool:
 def is_fitting(order: Order, program: Program, file: bytes) -> bool:
     budget, circuit = budget_of(order), READERS[order.values["format"]](file)
     fits = len(circuit.names) <= budget.lines and len(circuit.gates) <= budget.gates
-    return fits and is_clean(circuit, program, budget.borrow, words_of)
+    return fits and is_clean(circuit, program, budget.borrow, words_of, order.values["plan"] != "compact")
 
 
 def is_arithmetic(order: Order, file: bytes) -> bool:

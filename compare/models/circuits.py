@@ -77,15 +77,17 @@ def has_form(circuit: Circuit, roles: Roles) -> bool:
     )
 
 
-def is_clean(circuit: Circuit, program: Program, borrow: int, words_of: WordsOf) -> bool:
-    """Whether the circuit is a clean one with so many borrowed lines: for each word of bits, those of the
-    inputs, of the output lines and of the borrowed lines, it adds the program's outputs to the output lines, keeps the
-    rest of the word and leaves each work line at 0."""
+def is_clean(circuit: Circuit, program: Program, borrow: int, words_of: WordsOf, is_any: bool = True) -> bool:
+    """Whether the circuit is a clean one with so many borrowed lines: for each word of bits, those of the inputs, of the
+    output lines (or zeros there, where these may not hold anything) and of the borrowed lines, it adds the program's
+    outputs to the output lines, keeps the rest of the word and leaves each work line at 0."""
     roles = roles_of(circuit.names)
     if not has_form(circuit, roles) or (roles.inputs, roles.borrowed) != (program.inputs, borrow):
         return False
-    words = words_of(roles.inputs + roles.outputs + roles.borrowed)
-    return all(adds_outputs(circuit, roles, program, list(word)) for word in words)
+    held = roles.outputs if is_any else 0
+    zeros = [0] * (roles.outputs - held)
+    words = map(list, words_of(roles.inputs + held + roles.borrowed))
+    return all(adds_outputs(circuit, roles, program, word[: roles.inputs] + zeros + word[roles.inputs :]) for word in words)
 
 
 def adds_outputs(circuit: Circuit, roles: Roles, program: Program, word: List[int]) -> bool:
