@@ -1,4 +1,5 @@
 """Runs all tests, and prints `N passed, M failed` at the end: `python3 python/tests`."""
+import os
 import sys
 import unittest
 from pathlib import Path
@@ -6,6 +7,8 @@ from pathlib import Path
 HERE = Path(__file__).resolve().parent
 sys.dont_write_bytecode = True
 sys.path[:0] = [str(HERE), str(HERE.parent)]
+# (tests call `python3 -m revc` too, from wherever they are run)
+os.environ["PYTHONPATH"] = os.pathsep.join([str(HERE.parent), *filter(None, [os.environ.get("PYTHONPATH")])])
 
 
 def main() -> int:
