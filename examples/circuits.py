@@ -35,7 +35,7 @@ class Circuit(NamedTuple):
         return digits(self.compute(*numbers(word, self.inputs)), self.outputs)
 
     def options(self) -> List[List[str]]:
-        plans = [["--plan", "lean"], ["--plan", "eager"], ["--plan", "pebble"]]
+        plans = [["--plan", plan] for plan in ("compact", "lean", "eager", "pebble")]
         return plans + [["--plan", "pebble", "--lines", str(lines)] for lines in self.lines]
 
 
