@@ -1,7 +1,9 @@
 -- A `for`, as the machine runs it.
-use Rattle.std.proofs.Common.{◌≡◌, ℕ, zero, suc, ◌+◌, ◌-◌, ◌<◌, ◌≤◌, List, length, refl, sym, ap, ◌∙◌, subst, arith}
+use Rattle.std.proofs.Common.{◌≡◌, ℕ, zero, suc, ◌+◌, ◌-◌, ◌<◌, ◌≤◌, List, length, take, refl, sym, ap, ◌∙◌, subst, arith}
 use Rattle.std.specs.Prelude.{ℤ, pos, ◌+ℤ◌, Result, Ok, Err}
+use Rattle.std.proofs.lemmas.List.{take_at}
 use Rattle.revc_base.specs.declared.place.Place.{Place}
+use Rattle.revs_tape.specs.Tapes.{TapeView}
 use Rattle.revs_terms.specs.declared.term.Name.{Name}
 use Rattle.revs_terms.specs.declared.term.Step.{Step}
 use Rattle.revs_terms.specs.Trees.{ItemTree, item_trees, run, loop}
@@ -11,11 +13,11 @@ use Rattle.revs_terms.specs.Runs.{no_bits}
 use Rattle.array_shapes.specs.declared.value.Value.{Value}
 use Rattle.inliner.specs.declared.fault.RunFault.{RunFault}
 use Rattle.inliner.specs.declared.machine.Machine.{Machine}
-use Rattle.inliner.specs.inside.Machines.{env_in, envs_of, state_of, IsMachine, Does, Goes, Binds, BindsOne, LeavesRoom}
+use Rattle.inliner.specs.inside.Machines.{env_in, envs_of, state_of, IsMachine, Does, Goes, Binds, BindsOne, LeavesRoom, Passes}
 use Rattle.inliner.specs.inside.Calls.{Going, Says, Follows, item_step}
 use Rattle.inliner.specs.inside.Numbers.{loop_run}
 use Rattle.inliner.proofs.FaultLemmas.{said_first, said_same}
-use Rattle.inliner.proofs.EnvironmentLemmas.{grown_env, grows_trans}
+use Rattle.inliner.proofs.EnvironmentLemmas.{grown_env, grown_length, grows_same, grows_trans}
 use Rattle.inliner.proofs.ProgressLemmas.{Through, begun, step, step_bound, same_rest, ends, ends_here, said, does_in, says_in, items_of-item_trees}
 use Rattle.inliner.proofs.CallLemmas.{item_run}
 
@@ -126,18 +128,18 @@ turns_begun m left e is at first count is-machine =
     begun m _ _ (ap (λ (k : ℤ). turns_of no_bits (run_of no_bits left) e is at k count (state_of m)) same
     ∙ ap (λ (n : ℕ). turns_of no_bits (run_of no_bits left) e is at (first +ℤ pos 0) n (state_of m)) all) is-machine
 
-pub turns_more : (old now later : Machine) (left env behind : ℕ) (is : List ItemTree) (at : Place) (first k : ℤ) (count turn : ℕ) (whole : Going runs.Value)
+pub turns_more : (old now later : Machine) (left env : ℕ) (is : List ItemTree) (at : Place) (first k : ℤ) (count turn : ℕ) (whole : Going runs.Value)
     → env ≤ length old.bindings.items → turn < count → k ≡ first +ℤ pos turn
     → Through old now whole (rest_of_turns left (env_in (envs_of old) env) is at first count turn (state_of now))
-    → Binds now later (turn_of no_bits (run_of no_bits left) (env_in (envs_of now) env) is at k (state_of now)) behind
+    → Passes now later (turn_of no_bits (run_of no_bits left) (env_in (envs_of now) env) is at k (state_of now))
     → Through old later whole (rest_of_turns left (env_in (envs_of old) env) is at first count (turn + 1) (state_of later))
-turns_more old now later left env behind is at first k count turn whole h below same t b =
+turns_more old now later left env is at first k count turn whole h below same t b =
     let e : Environment = env_in (envs_of old) env in
     step (λ _ s. rest_of_turns left e is at first count (turn + 1) s)
     (same_rest _ (turns_next left e is at first count turn (state_of now) below) t)
     (does_in (λ x. turn_of no_bits (run_of no_bits left) x is at (first +ℤ pos turn) (state_of now)) old now later env _ t.grows h
-    (subst (λ (z : ℤ). Does now later (turn_of no_bits (run_of no_bits left) (env_in (envs_of now) env) is at z (state_of now))
-    (env_in (envs_of later) behind)) same b.does))
+    (subst (λ (z : ℤ). Does now later (turn_of no_bits (run_of no_bits left) (env_in (envs_of now) env) is at z (state_of now)) b.inner)
+    same b.does))
 
 pub turns_stuck : (old now : Machine) (left env : ℕ) (is : List ItemTree) (at : Place) (first k : ℤ) (count turn : ℕ) (whole : Going runs.Value)
     (fault : RunFault) → env ≤ length old.bindings.items → turn < count → k ≡ first +ℤ pos turn
@@ -173,6 +175,34 @@ pub turn_bound : (old mid now : Machine) (left env inner : ℕ) (is : List ItemT
 turn_bound old mid now left env inner is at k m h d room b =
     step_bound (λ f s. items_run no_bits (run_of no_bits left) f is s) (turn_worked old mid left env is at k m d) room
     (subst (λ (e : Environment). BindsOne mid now (went (bound (number k) e) (state_of mid)) inner) (grown_env old mid env d.grows h) b)
+
+-- what a turn bound is let go: the bindings are those from before it
+pub turn_passes : (old now later : Machine) (kept env : ℕ) (outcome : Going Environment) → IsMachine old → kept ≡ length old.bindings.items
+    → Binds old now outcome env → later.bindings.items ≡ take kept now.bindings.items → later.store ≡ now.store → later.tape ≡ now.tape
+    → later.work ≡ now.work → Passes old later outcome
+turn_passes old now later kept env outcome m k b e s t w =
+    let g = b.does.grows in
+    let same : later.bindings.items ≡ old.bindings.items =
+    e ∙ ap (take kept) g.bindings ∙ take_at old.bindings.items g.more kept (sym k) in
+    let state : state_of now ≡ state_of later = cc in
+    let few : length later.bindings.items ≡ length old.bindings.items = ap length same in
+    let grown : length old.bindings.items ≤ length now.bindings.items = grown_length old now g in
+    record {
+      inner = env_in (envs_of now) env;
+      does = record {
+        goes = b.does.goes ∙ ap (λ (x : State (Unit {0})). went (env_in (envs_of now) env) x) state;
+        grows = grows_same old later same (ap (λ (x : TapeView). x.params) t ∙ g.params);
+        kept = record {
+          made = rw same m.made;
+          leaps = rw same m.leaps;
+          known = rw (s, t) b.does.kept.known;
+          few = rw (s, t) b.does.kept.few;
+          within = rw w b.does.kept.within;
+          room = omega (arith, few, w, m.room, grown, b.does.worked);
+        };
+        worked = omega (arith, few, w, grown, b.does.worked);
+      };
+    }
 
 pub ends_binds : {old now later : Machine} {whole rest : Going Environment} {env : ℕ} → Through old now whole rest → Binds now later rest env
     → Binds old later whole env

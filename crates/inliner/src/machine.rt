@@ -1,5 +1,5 @@
 // The machine that runs a program without bits.
-ghost use Rattle.std.specs.Prelude.{◌≡◌, ◌<◌, length, sum, IfOk, OnOk, IfErr, IsErrOf};
+ghost use Rattle.std.specs.Prelude.{◌≡◌, ◌<◌, length, sum, take, IfOk, OnOk, IfErr, IsErrOf};
 ghost use Rattle.revs_tape.specs.declared.limits.TheConstants.{MOST_WRITES};
 ghost use Rattle.revs_tape.specs.Tapes.{IsKnown, IsKnownEntry};
 ghost use Rattle.revs_terms.specs.Running.{went, worked, written, read};
@@ -55,6 +55,16 @@ impl<'t> Machine<'t> {
         ensures { result ≡ length self.now.bindings.items }
     {
         self.bindings.len() as u32
+    }
+
+    /// Lets go of all bindings but the first so many.
+    pub fn forget(&mut self, kept: u32)
+        ensures bindings { self.new.bindings.items ≡ take kept self.old.bindings.items }
+        ensures store { self.new.store ≡ self.old.store }
+        ensures tape { self.new.tape ≡ self.old.tape }
+        ensures work { self.new.work ≡ self.old.work }
+    {
+        self.bindings.truncate(kept as usize);
     }
 
     /// Enters a term, which counts one unit of work.

@@ -7,7 +7,7 @@ ghost use Rattle.revs_terms.specs.Runs.{no_bits};
 ghost use Rattle.revs_terms.specs.Terms.{place_of};
 ghost use Rattle.revs_terms.specs.Trees.{tree_of, item_tree_of, trees};
 ghost use Rattle.inliner.specs.inside.Machines.{IsMachine, Does, Goes, Binds, Calls, LeavesRoom};
-ghost use Rattle.inliner.specs.inside.Machines.{IsValue, env_of, value_of, state_of};
+ghost use Rattle.inliner.specs.inside.Machines.{IsValue, Passes, env_of, value_of, state_of};
 ghost use Rattle.inliner.specs.inside.Calls.{Follows, IsBitAt, NoBitAt, item_step, link_step};
 ghost use Rattle.inliner.specs.inside.Calls.{RunsAs, chain_tree, argument_step};
 ghost use Rattle.inliner.specs.inside.Numbers.{loop_run};
@@ -302,9 +302,30 @@ impl<'t> Machine<'t> {
         Ok(Value::Unit)
     }
 
-    // The items of a `for` at this place, with its name bound to a number.
+    // One turn of a `for` at this place: what its items bind is let go.
     #[cycle(run)]
     fn turn(
+        &mut self,
+        frame: Frame,
+        items: &'t [Item],
+        at: Place,
+        number: i32,
+    ) -> Result<(), RunFault>
+        requires machine { IsMachine self.old }
+        requires env { frame.env ≤ length self.old.bindings.items }
+        ensures { Follows (λ outcome _. Passes self.old self.new outcome)
+            (turn_of no_bits (run_of no_bits frame.left) (env_of self.old frame.env)
+            (map item_tree_of items.now) at number (state_of self.old)) result }
+    {
+        let kept = self.last_environment();
+        self.bound_turn(frame, items, at, number)?;
+        self.forget(kept);
+        Ok(())
+    }
+
+    // The items of a `for` at this place, with its name bound to a number.
+    #[cycle(run)]
+    fn bound_turn(
         &mut self,
         frame: Frame,
         items: &'t [Item],

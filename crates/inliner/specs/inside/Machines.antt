@@ -187,6 +187,11 @@ pub record Binds (old now : Machine) (outcome : Outcome (Unit {0}) Environment)
   pub does : Does old now outcome (env_in (envs_of now) env)
   pub made : env ≤ length now.bindings.items
 
+-- The run goes on with some environment, of which the machine keeps nothing.
+pub record Passes (old now : Machine) (outcome : Outcome (Unit {0}) Environment) : Type 0 where
+  pub inner : Environment
+  pub does : Does old now outcome inner
+
 -- The run goes on with an environment of the machine, which has one more binding.
 pub record BindsOne (old now : Machine) (outcome : Outcome (Unit {0}) Environment)
     (env : ℕ) : Type 0 where

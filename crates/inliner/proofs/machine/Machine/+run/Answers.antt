@@ -19,7 +19,7 @@ use Rattle.inliner.proofs.CallLemmas.{named_goes, append_second, append_stuck, a
 use Rattle.inliner.proofs.CallLemmas.{block_last, bit_ends, bit_stuck, item_stuck}
 use Rattle.inliner.proofs.CallLemmas.{apply_stuck, argument_run, call_stuck, call_last, call_next, call_ends, call_said, item_bound, item_run, block_term}
 use Rattle.inliner.proofs.LoopLemmas.{item_loop, item_loop_stuck, loop_begun, loop_no_last, turns_begun, turns_more}
-use Rattle.inliner.proofs.LoopLemmas.{turns_stuck, turns_done, turn_bound, binds_so}
+use Rattle.inliner.proofs.LoopLemmas.{turns_stuck, turns_done, turn_bound, turn_passes, binds_so}
 use Rattle.inliner.specs.inside.Calls.{Says, Follows, item_step, join_step}
 use Rattle.inliner.proofs.machine.Machine.+run.Goals as goal
 
@@ -378,7 +378,7 @@ turns-loop-turn-init t c = turns_begun c.args.self.now c.args.frame.left (env_in
     c.args.at _ _ c.requires.machine
 
 pub turns-loop-turn-preserved : goal.turns-loop-turn-preserved
-turns-loop-turn-preserved t c = turns_more c.args.self.now c.loop-turn.self c.turn.new.self c.args.frame.left c.args.frame.env c.in_ok-turn.field-0
+turns-loop-turn-preserved t c = turns_more c.args.self.now c.loop-turn.self c.turn.new.self c.args.frame.left c.args.frame.env
     (map item_tree_of c.args.items.now) c.args.at _ c.number_at.result _ c.loop-turn.turn _ c.requires.env
     (omega (arith, c.loop-turn-test.true, c.turn_count-turn-end.ensures)) c.number_at.ensures.is c.loop-turn.invariant
     (simp (to_z-of_z, c.number_at.ensures.fits) at c.in_ok-turn.ensures)
@@ -401,7 +401,12 @@ turns-returns t c = record {
 }
 
 pub turn-returns : goal.turn-returns
-turn-returns t c =
+turn-returns t c = turn_passes c.args.self.now c.bound_turn.new.self c.forget.new.self c.last_environment-kept.result c.in_ok-bound_turn.field-0 _
+    c.requires.machine c.last_environment-kept.ensures (simp (to_z-of_z, c.ranges.number) at c.in_ok-bound_turn.ensures)
+    c.forget.ensures.bindings c.forget.ensures.store c.forget.ensures.tape c.forget.ensures.work
+
+pub bound_turn-returns : goal.bound_turn-returns
+bound_turn-returns t c =
     binds_so c.items.new.self c.items.result
     (turn_bound c.args.self.now c.work.new.self c.push.new.self c.args.frame.left c.args.frame.env c.in_ok-inner.inner
     (map item_tree_of c.args.items.now) c.args.at c.args.number c.requires.machine c.requires.env c.in_ok-work.ensures.ok c.in_ok-work.ensures.added

@@ -60,10 +60,13 @@ abbrev pub decreases-repeat : goal.decreases-repeat
 decreases-repeat l = l.frame.left * 9 + 4
 
 abbrev pub decreases-turns : goal.decreases-turns
-decreases-turns l = l.frame.left * 9 + 8
+decreases-turns l = l.frame.left * 9 + 9
 
 abbrev pub decreases-turn : goal.decreases-turn
-decreases-turn l = l.frame.left * 9 + 7
+decreases-turn l = l.frame.left * 9 + 8
+
+abbrev pub decreases-bound_turn : goal.decreases-bound_turn
+decreases-bound_turn l = l.frame.left * 9 + 7
 
 abbrev pub decreases-item : goal.decreases-item
 decreases-item l = l.frame.left * 9 + 5
