@@ -36,7 +36,11 @@ class Whole(NamedTuple):
     compute: Callable[..., Any] = None  # type: ignore[assignment]
     below: int = 0  # what its inputs are below, where that is less than their bits say
     right: Sequence[Dict[str, int]] = ()  # inputs among the random ones, where these seldom give 1
-    budgets: Sequence[Tuple[str, int]] = [("lean", 0)]  # plans and lines that docs/GALLERY.md shows; 0 is all lines
+    lines: Sequence[int] = ()  # of the compact circuits that docs/GALLERY.md shows beside those on all lines
+
+    def budgets(self) -> List[Tuple[str, int]]:
+        """Plans and lines that docs/GALLERY.md shows; 0 is all lines."""
+        return [("compact", lines) for lines in (0, *self.lines)] + [("lean", 0)]
 
     def cases(self) -> List[Vector]:
         return list(self.vectors) or list(self.random_cases())
@@ -89,22 +93,25 @@ PRIMES = [dict(x=65519, y=65521), dict(x=65521, y=65519)]
 
 WHOLE = [
     Whole(speck32_64, "Speck32/64, whole", [(dict(text=0x6574694c, key=0x1918111009080100), 0xa86842f2)],
-          budgets=[("lean", 0), ("lean", 935), ("lean", 704)]),
+          lines=(458, 217)),
     Whole(simon64_128, "Simon64/128, whole", [
-        (dict(text=0x656b696c20646e75, key=0x1b1a1918131211100b0a090803020100), 0x44c8fc20b9dfa07a)],
-          budgets=[("lean", 0), ("lean", 1821), ("lean", 1152)]),
+        (dict(text=0x656b696c20646e75, key=0x1b1a1918131211100b0a090803020100), 0x44c8fc20b9dfa07a)]),
     Whole(ascon_p12, "Ascon-p12", [(dict(state=0x00400c0000000100), [
-        0xee9398aadb67f03d, 0x8bb21831c60f1002, 0xb48a92db98d5da62, 0x43189921b8f8e3e8, 0x348fa5c9d525e140])]),
+        0xee9398aadb67f03d, 0x8bb21831c60f1002, 0xb48a92db98d5da62, 0x43189921b8f8e3e8, 0x348fa5c9d525e140])],
+          lines=(2432, 2176)),
     Whole(keccak_f200, "Keccak-f[200]", [
-        (dict(state=0), in_bytes("3c2826841cb35c171eaae9b811134ceaa3852c69d2c5abafea"))]),
+        (dict(state=0), in_bytes("3c2826841cb35c171eaae9b811134ceaa3852c69d2c5abafea"))],
+          lines=(2112, 1320)),
     Whole(keccak_f800, "Keccak-f[800]", [(dict(state=0), [
         0xe531d45d, 0xf404c6fb, 0x23a0bf99, 0xf1f8452f, 0x51ffd042, 0xe539f578, 0xf00b80a7, 0xaf973664, 0xbf5af34c,
         0x227a2424, 0x88172715, 0x9f685884, 0xb15cd054, 0x1bf4fc0e, 0x6166fa91, 0x1a9e599a, 0xa3970a1f, 0xab659687,
-        0xafab8d68, 0xe74b1015, 0x34001a98, 0x4119eff3, 0x930a0e76, 0x87b28070, 0x11efe996])]),
+        0xafab8d68, 0xe74b1015, 0x34001a98, 0x4119eff3, 0x930a0e76, 0x87b28070, 0x11efe996])],
+          lines=(8992, 6592)),
     Whole(aes128, "AES-128", [
         (dict(key=lowest_first(KEY), text=lowest_first(PLAIN)), in_bytes("69c4e0d86a7b0430d8cdb78070b4c55a")),
         (dict(key=lowest_first("2b7e151628aed2a6abf7158809cf4f3c"), text=lowest_first("3243f6a8885a308d313198a2e0370734")),
-         in_bytes("3925841d02dc09fbdc118597196a0b32"))], budgets=[("lean", 0), ("lean", 4328), ("lean", 2405), ("lean", 1793)]),
+         in_bytes("3925841d02dc09fbdc118597196a0b32"))],
+          lines=(2285, 1236)),
     Whole(chacha20, "ChaCha20, the block function", [
         (dict(key=lowest_first("".join("%02x" % i for i in range(32))), counter=1,
               nonce=lowest_first("000000090000004a00000000")),
@@ -112,19 +119,23 @@ WHOLE = [
           0x466482d2, 0x09aa9f07, 0x05d7c214, 0xa2028bd9, 0xd19c12b5, 0xb94e16de, 0xe883d0cb, 0x4e3c50a2]),
         (dict(key=0, counter=0, nonce=0), little_words(
             "76b8e0ada0f13d90405d6ae55386bd28bdd219b8a08ded1aa836efcc8b770dc7"
-            "da41597c5157488d7724e03fb8d84a376a43b8f41518a11cc387b669b2ee6586"))]),
+            "da41597c5157488d7724e03fb8d84a376a43b8f41518a11cc387b669b2ee6586"))],
+          lines=(9056, 1831)),
     Whole(sha256_compression, "SHA-256, the compression function", [hashed_block(b"abc"), hashed_block(b""),
                                                                     hashed_block(bytes(range(55)))],
-          budgets=[("lean", 0), ("lean", 9000), ("lean", 7419)]),
+          lines=(9633, 3168)),
     Whole(sha256_preimage, "SHA-256 of 16 bytes: are 64 bits of the digest the sought ones?", [
-        begins(b"a secret of 16 b"), begins(b"a secret of 16 c"), begins(bytes(16))]),
+        begins(b"a secret of 16 b"), begins(b"a secret of 16 c"), begins(bytes(16))],
+          lines=(9716, 3120)),
     Whole(multiply32, "multiplication, 32 by 32 bits", compute=lambda x, y: x * y,
-          budgets=[("lean", 0), ("lean", 1311), ("lean", 628)]),
-    Whole(add_modulo, "addition modulo 2^32 - 5, of numbers below", compute=lambda x, y: (x + y) % MODULUS, below=MODULUS),
+          lines=(1109, 561)),
+    Whole(add_modulo, "addition modulo 2^32 - 5, of numbers below", compute=lambda x, y: (x + y) % MODULUS, below=MODULUS,
+          lines=(128,)),
     Whole(factors16, "x * y == 65519 * 65521, of 16 bits each", compute=lambda x, y: int(x * y == 65519 * 65521),
-          right=PRIMES, budgets=[("lean", 0), ("lean", 373), ("lean", 180)]),
+          right=PRIMES,
+          lines=(342, 163)),
     Whole(weight64, "Hamming weight of 64 bits", compute=lambda x: bin(x).count("1"),
-          budgets=[("lean", 0), ("lean", 144), ("lean", 119)]),
+          lines=(117, 112)),
 ]
 
 

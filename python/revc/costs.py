@@ -54,14 +54,22 @@ class Search:
         sys.stderr.flush()
         self.shown = bool(text)
 
-    def least(self, plan: str, found: Circuit) -> Circuit:
-        """The circuit on the fewest lines, by halving; one that fits is known."""
-        low = self.source.inputs + self.source.outputs - 1
-        while found.lines - low > 1 and not self.is_late():
-            middle = (low + found.lines) // 2
+    def least(self, plan: str, limit: int, found: Circuit) -> Tuple[int, Circuit]:
+        """The fewest lines that were found to be enough, and the circuit that comes of them, given one that came of `limit`.
+
+        A plan that searches may not find a circuit again within the very lines that this has, so the limit is kept apart.
+        """
+        low, high = self.source.inputs + self.source.outputs - 1, found.lines
+        while high - low > 1 and not self.is_late():
+            middle = (low + high) // 2
             circuit = self.at(plan, middle)
-            low, found = (middle, found) if circuit is None else (low, circuit)
-        return found
+            if circuit is None:
+                low = middle
+            else:
+                limit, found, high = middle, circuit, min(middle, circuit.lines)
+        if found.lines < limit and self.at(plan, found.lines) is not None:
+            limit = found.lines
+        return limit, found
 
     def circuits(self, plan: str, points: int) -> Iterator[Tuple[int, Circuit]]:
         """Circuits of a plan, each with the limit that gives it: on all lines, on the fewest, and on some between."""
@@ -69,9 +77,9 @@ class Search:
         most = self.at(plan, LINES)
         if most is None:
             return
-        least = self.least(plan, most)
+        fewest, least = self.least(plan, LINES, most)
         yield LINES, most
-        yield least.lines, least
+        yield fewest, least
         step = (most.lines / least.lines) ** (1 / (points + 1))
         for lines in sorted({int(least.lines * step ** i) for i in range(1, points + 1)}):
             circuit = self.at(plan, lines)
@@ -145,8 +153,8 @@ def lines_that_fit(source: "Source", plan: str, lines: int, gates: int, borrow: 
         circuit = None if search.is_late() else search.at(each, 16384, gates)
         if circuit is None:
             continue
-        circuit = search.least(each, circuit)
-        found.append("%d under `%s`" % (circuit.lines, each) if found else "%d lines under `%s`" % (circuit.lines, each))
+        fewest, _ = search.least(each, 16384, circuit)
+        found.append("%d under `%s`" % (fewest, each) if found else "%d lines under `%s`" % (fewest, each))
     if not found:
         return "try more lines, and costs() for all that can be had"
     late = " at most (the search was cut short)" if search.is_late() else ""
