@@ -11,9 +11,12 @@ use Rattle.revs_terms.specs.Running as runs
 use Rattle.revs_terms.specs.Running.{Environment, State, number, bound, went, after, turns, worked, number_of, items_run, turn_of, turns_of, run_of}
 use Rattle.revs_terms.specs.Runs.{no_bits}
 use Rattle.array_shapes.specs.declared.value.Value.{Value}
+use Rattle.array_shapes.specs.Values as views
+use Rattle.array_shapes.specs.Values.{ValueView, seen}
 use Rattle.inliner.specs.declared.fault.RunFault.{RunFault}
 use Rattle.inliner.specs.declared.machine.Machine.{Machine}
-use Rattle.inliner.specs.inside.Machines.{env_in, envs_of, state_of, IsMachine, Does, Goes, Binds, BindsOne, LeavesRoom, Passes}
+use Rattle.inliner.specs.inside.Machines.{env_in, envs_of, spec_value, state_of, IsMachine, Does, Goes, Binds, BindsOne, LeavesRoom, Passes}
+use Rattle.inliner.specs.inside.Machines.{Grows, Forgets, Settles, IsValueView}
 use Rattle.inliner.specs.inside.Calls.{Going, Says, Follows, item_step}
 use Rattle.inliner.specs.inside.Numbers.{loop_run}
 use Rattle.inliner.proofs.FaultLemmas.{said_first, said_same}
@@ -176,33 +179,79 @@ turn_bound old mid now left env inner is at k m h d room b =
     step_bound (λ f s. items_run no_bits (run_of no_bits left) f is s) (turn_worked old mid left env is at k m d) room
     (subst (λ (e : Environment). BindsOne mid now (went (bound (number k) e) (state_of mid)) inner) (grown_env old mid env d.grows h) b)
 
--- what a turn bound is let go: the bindings are those from before it
-pub turn_passes : (old now later : Machine) (kept env : ℕ) (outcome : Going Environment) → IsMachine old → kept ≡ length old.bindings.items
-    → Binds old now outcome env → later.bindings.items ≡ take kept now.bindings.items → later.store ≡ now.store → later.tape ≡ now.tape
-    → later.work ≡ now.work → Passes old later outcome
-turn_passes old now later kept env outcome m k b e s t w =
-    let g = b.does.grows in
-    let same : later.bindings.items ≡ old.bindings.items =
-    e ∙ ap (take kept) g.bindings ∙ take_at old.bindings.items g.more kept (sym k) in
+-- ---- what was bound is let go
+
+-- the bindings are those from before
+forgets_same : (old now later : Machine) (kept : ℕ) → kept ≡ length old.bindings.items → Grows old now → Forgets kept now later
+    → later.bindings.items ≡ old.bindings.items
+forgets_same old now later kept k g f = f.bindings ∙ ap (take kept) g.bindings ∙ take_at old.bindings.items g.more kept (sym k)
+
+pub does_forgotten : {A : Type 0} (old now later : Machine) (kept : ℕ) (outcome : Going A) (a : A) → IsMachine old → kept ≡ length old.bindings.items
+    → Does old now outcome a → Forgets kept now later → Does old later outcome a
+does_forgotten old now later kept outcome a m k d f =
+    let same : later.bindings.items ≡ old.bindings.items = forgets_same old now later kept k d.grows f in
+    let s = f.store in
+    let t = f.tape in
+    let w = f.work in
     let state : state_of now ≡ state_of later = cc in
     let few : length later.bindings.items ≡ length old.bindings.items = ap length same in
-    let grown : length old.bindings.items ≤ length now.bindings.items = grown_length old now g in
+    let grown : length old.bindings.items ≤ length now.bindings.items = grown_length old now d.grows in
     record {
-      inner = env_in (envs_of now) env;
-      does = record {
-        goes = b.does.goes ∙ ap (λ (x : State (Unit {0})). went (env_in (envs_of now) env) x) state;
-        grows = grows_same old later same (ap (λ (x : TapeView). x.params) t ∙ g.params);
-        kept = record {
-          made = rw same m.made;
-          leaps = rw same m.leaps;
-          known = rw (s, t) b.does.kept.known;
-          few = rw (s, t) b.does.kept.few;
-          within = rw w b.does.kept.within;
-          room = omega (arith, few, w, m.room, grown, b.does.worked);
-        };
-        worked = omega (arith, few, w, grown, b.does.worked);
+      goes = d.goes ∙ ap (λ (x : State (Unit {0})). went a x) state;
+      grows = grows_same old later same (ap (λ (x : TapeView). x.params) t ∙ d.grows.params);
+      kept = record {
+        made = rw same m.made;
+        leaps = rw same m.leaps;
+        known = rw (s, t) d.kept.known;
+        few = rw (s, t) d.kept.few;
+        within = rw w d.kept.within;
+        room = omega (arith, few, w, m.room, grown, d.worked);
       };
+      worked = omega (arith, few, w, grown, d.worked);
     }
+
+pub turn_passes : (old now later : Machine) (kept env : ℕ) (outcome : Going Environment) → IsMachine old → kept ≡ length old.bindings.items
+    → Binds old now outcome env → Forgets kept now later → Passes old later outcome
+turn_passes old now later kept env outcome m k b f = record {
+  inner = env_in (envs_of now) env;
+  does = does_forgotten old now later kept outcome (env_in (envs_of now) env) m k b.does f;
+}
+
+settled_view : (old now later : Machine) (kept : ℕ) (outcome : Going runs.Value) (v : ValueView) → IsMachine old → kept ≡ length old.bindings.items
+    → Does old now outcome (spec_value (envs_of now) v) → IsValueView (length now.bindings.items) v → Settles kept v now later
+    → Does old later outcome (spec_value (envs_of later) v) × IsValueView (length later.bindings.items) v
+settled_view old now later kept outcome views.unit m k d h f = (does_forgotten old now later kept outcome runs.unit m k d f, tt)
+settled_view old now later kept outcome (views.bit location) m k d h f = (does_forgotten old now later kept outcome (runs.bit location) m k d f, tt)
+settled_view old now later kept outcome (views.register locations) m k d h f =
+    (does_forgotten old now later kept outcome (runs.register locations) m k d f, tt)
+settled_view old now later kept outcome (views.number n) m k d h f = (does_forgotten old now later kept outcome (runs.number n) m k d f, tt)
+settled_view old now later kept outcome (views.function env taken of) m k d h f = rw f (d, h)
+
+pub settled : (old now later : Machine) (kept : ℕ) (outcome : Going runs.Value) (value : Value) → IsMachine old → kept ≡ length old.bindings.items
+    → Goes old now outcome value → Settles kept (seen value) now later → Goes old later outcome value
+settled old now later kept outcome value m k g f =
+    let both = settled_view old now later kept outcome (seen value) m k g.does g.made.made f in
+    record { does = both.0; made = record { made = both.1 } }
+
+room_forgotten : (old now later : Machine) (kept : ℕ) → kept ≡ length old.bindings.items → Grows old now → LeavesRoom old now
+    → Forgets kept now later → LeavesRoom old later
+room_forgotten old now later kept k g r f =
+    let few : length later.bindings.items ≡ length old.bindings.items = ap length (forgets_same old now later kept k g f) in
+    let grown : length old.bindings.items ≤ length now.bindings.items = grown_length old now g in
+    let w = f.work in
+    omega (arith, few, w, grown, r)
+
+room_of_view : (old now later : Machine) (kept : ℕ) (v : ValueView) → kept ≡ length old.bindings.items → Grows old now → LeavesRoom old now
+    → Settles kept v now later → LeavesRoom old later
+room_of_view old now later kept (views.function env taken of) k g r f = rw f r
+room_of_view old now later kept views.unit k g r f = room_forgotten old now later kept k g r f
+room_of_view old now later kept (views.bit location) k g r f = room_forgotten old now later kept k g r f
+room_of_view old now later kept (views.register locations) k g r f = room_forgotten old now later kept k g r f
+room_of_view old now later kept (views.number n) k g r f = room_forgotten old now later kept k g r f
+
+pub settled_room : (old now later : Machine) (kept : ℕ) (outcome : Going runs.Value) (value : Value) → kept ≡ length old.bindings.items
+    → Goes old now outcome value → LeavesRoom old now → Settles kept (seen value) now later → LeavesRoom old later
+settled_room old now later kept outcome value k g r f = room_of_view old now later kept (seen value) k g.does.grows r f
 
 pub ends_binds : {old now later : Machine} {whole rest : Going Environment} {env : ℕ} → Through old now whole rest → Binds now later rest env
     → Binds old later whole env

@@ -1,5 +1,5 @@
 // The machine that runs a program without bits.
-ghost use Rattle.std.specs.Prelude.{◌≡◌, ◌<◌, length, sum, take, IfOk, OnOk, IfErr, IsErrOf};
+ghost use Rattle.std.specs.Prelude.{◌≡◌, ◌<◌, length, sum, IfOk, OnOk, IfErr, IsErrOf};
 ghost use Rattle.revs_tape.specs.declared.limits.TheConstants.{MOST_WRITES};
 ghost use Rattle.revs_tape.specs.Tapes.{IsKnown, IsKnownEntry};
 ghost use Rattle.revs_terms.specs.Running.{went, worked, written, read};
@@ -7,7 +7,9 @@ ghost use Rattle.revs_terms.specs.Runs.{no_bits};
 ghost use Rattle.revs_terms.specs.Terms.{place_of};
 ghost use Rattle.revs_terms.specs.Trees.{tree_of};
 ghost use Rattle.inliner.specs.inside.Calls.{Says};
+ghost use Rattle.array_shapes.specs.Values.{seen};
 ghost use Rattle.inliner.specs.inside.Machines.{IsMachine, Does, LeavesRoom, AddsWork, state_of};
+ghost use Rattle.inliner.specs.inside.Machines.{Forgets, Settles};
 
 use crate::RunFault;
 use crate::leaps::Leap;
@@ -59,12 +61,19 @@ impl<'t> Machine<'t> {
 
     /// Lets go of all bindings but the first so many.
     pub fn forget(&mut self, kept: u32)
-        ensures bindings { self.new.bindings.items ≡ take kept self.old.bindings.items }
-        ensures store { self.new.store ≡ self.old.store }
-        ensures tape { self.new.tape ≡ self.old.tape }
-        ensures work { self.new.work ≡ self.old.work }
+        ensures { Forgets kept self.old self.new }
     {
         self.bindings.truncate(kept as usize);
+    }
+
+    /// Lets go of all bindings but the first so many, unless the value is a function.
+    pub fn settle(&mut self, kept: u32, value: &Value<'t>)
+        ensures { Settles kept (seen value.now) self.old self.new }
+    {
+        match value {
+            Value::Fun { .. } => {}
+            Value::Unit | Value::Bit(_) | Value::Reg(_) | Value::Num(_) => self.forget(kept),
+        }
     }
 
     /// Enters a term, which counts one unit of work.

@@ -30,9 +30,26 @@ pub struct Frame {
 }
 
 impl<'t> Machine<'t> {
-    /// Runs a term in a frame.
+    /// Runs a term in a frame. What is bound meanwhile is let go, unless the value is a function,
+    /// which may need it.
     #[cycle(run)]
     pub fn run(&mut self, frame: Frame, term: &'t Term) -> RunResult<'t>
+        requires machine { IsMachine self.old }
+        requires env { frame.env ≤ length self.old.bindings.items }
+        ensures run { Follows (Goes self.old self.new)
+            (run_of no_bits frame.left (env_of self.old frame.env) (tree_of term.now)
+            (state_of self.old)) result }
+        ensures room { OnOk result (LeavesRoom self.old self.new) }
+    {
+        let kept = self.last_environment();
+        let value = self.entered(frame, term)?;
+        self.settle(kept, &value);
+        Ok(value)
+    }
+
+    // Enters a term and runs it.
+    #[cycle(run)]
+    fn entered(&mut self, frame: Frame, term: &'t Term) -> RunResult<'t>
         requires machine { IsMachine self.old }
         requires env { frame.env ≤ length self.old.bindings.items }
         ensures run { Follows (Goes self.old self.new)

@@ -1,6 +1,7 @@
 -- The machine that runs a program without bits: its environments in one list, in the order in which they were made.
 use Rattle.std.specs.Prelude.{◌≡◌, ℕ, zero, suc, ◌+◌, ◌-◌, ◌≤◌, ◌==◌, if◌then◌else◌, slice_get, Option, Some}
-use Rattle.std.specs.Prelude.{None, List, [], ◌∷◌, ◌++◌, length, drop, map, sum, option_map, slice_index_or, ⊤}
+use Rattle.std.specs.Prelude.{None, List, [], ◌∷◌, ◌++◌, length, drop, take, map, sum, option_map, slice_index_or}
+use Rattle.std.specs.Prelude.{⊤}
 use Rattle.std.specs.List.{AllByRecursion}
 use Rattle.revs_tape.specs.declared.limits.TheConstants.{MOST_INPUTS}
 use Rattle.revs_terms.specs.declared.limits.TheConstants.{MOST_WORK}
@@ -191,6 +192,18 @@ pub record Binds (old now : Machine) (outcome : Outcome (Unit {0}) Environment)
 pub record Passes (old now : Machine) (outcome : Outcome (Unit {0}) Environment) : Type 0 where
   pub inner : Environment
   pub does : Does old now outcome inner
+
+-- All bindings but the first so many are let go.
+pub record Forgets (kept : ℕ) (old now : Machine) : Type 0 where
+  pub bindings : now.bindings.items ≡ take kept old.bindings.items
+  pub store : now.store ≡ old.store
+  pub tape : now.tape ≡ old.tape
+  pub work : now.work ≡ old.work
+
+-- behind a run with this value; a function keeps what it may need
+abbrev pub Settles : ℕ → ValueView → (old now : Machine) → Type 0
+Settles kept (values.function env taken of) old now = now ≡ old
+Settles kept _ old now = Forgets kept old now
 
 -- The run goes on with an environment of the machine, which has one more binding.
 pub record BindsOne (old now : Machine) (outcome : Outcome (Unit {0}) Environment)

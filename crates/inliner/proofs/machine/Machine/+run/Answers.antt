@@ -19,12 +19,20 @@ use Rattle.inliner.proofs.CallLemmas.{named_goes, append_second, append_stuck, a
 use Rattle.inliner.proofs.CallLemmas.{block_last, bit_ends, bit_stuck, item_stuck}
 use Rattle.inliner.proofs.CallLemmas.{apply_stuck, argument_run, call_stuck, call_last, call_next, call_ends, call_said, item_bound, item_run, block_term}
 use Rattle.inliner.proofs.LoopLemmas.{item_loop, item_loop_stuck, loop_begun, loop_no_last, turns_begun, turns_more}
-use Rattle.inliner.proofs.LoopLemmas.{turns_stuck, turns_done, turn_bound, turn_passes, binds_so}
+use Rattle.inliner.proofs.LoopLemmas.{turns_stuck, turns_done, turn_bound, turn_passes, binds_so, settled, settled_room}
 use Rattle.inliner.specs.inside.Calls.{Says, Follows, item_step, join_step}
 use Rattle.inliner.proofs.machine.Machine.+run.Goals as goal
 
 pub run-returns-clause-run : goal.run-returns-clause-run
-run-returns-clause-run t c =
+run-returns-clause-run t c = settled c.args.self.now c.entered.new.self c.settle.new.self c.last_environment-kept.result _ c.in_ok-value.value
+    c.requires.machine c.last_environment-kept.ensures c.in_ok-value.ensures.run c.settle.ensures
+
+pub run-returns-clause-room : goal.run-returns-clause-room
+run-returns-clause-room t c = settled_room c.args.self.now c.entered.new.self c.settle.new.self c.last_environment-kept.result _ c.in_ok-value.value
+    c.last_environment-kept.ensures c.in_ok-value.ensures.run c.in_ok-value.ensures.room c.settle.ensures
+
+pub entered-returns-clause-run : goal.entered-returns-clause-run
+entered-returns-clause-run t c =
     let old = c.args.self.now in
     let goes = entered old c.enter.new.self c.args.frame.left (env_in (envs_of old) c.args.frame.env) (tree_of c.args.term.now) c.requires.machine (omega arith)
     c.in_ok-enter.ensures.ok in
@@ -35,8 +43,8 @@ run-returns-clause-run t c =
     (λ v g. ends_goes goes (goes_in term old c.enter.new.self _ c.args.frame.env v grows c.requires.env g))
     (λ f s. said f goes (says_in term old c.enter.new.self c.args.frame.env f grows c.requires.env s))
 
-pub run-returns-clause-room : goal.run-returns-clause-room
-run-returns-clause-room t c = on_ok_alone _ c.term.result (λ v g. omega (arith, c.in_ok-enter.ensures.room, g.does.worked)) c.term.ensures
+pub entered-returns-clause-room : goal.entered-returns-clause-room
+entered-returns-clause-room t c = on_ok_alone _ c.term.result (λ v g. omega (arith, c.in_ok-enter.ensures.room, g.does.worked)) c.term.ensures
 
 pub assignment-returns : goal.assignment-returns
 assignment-returns t c =
@@ -402,8 +410,7 @@ turns-returns t c = record {
 
 pub turn-returns : goal.turn-returns
 turn-returns t c = turn_passes c.args.self.now c.bound_turn.new.self c.forget.new.self c.last_environment-kept.result c.in_ok-bound_turn.field-0 _
-    c.requires.machine c.last_environment-kept.ensures (simp (to_z-of_z, c.ranges.number) at c.in_ok-bound_turn.ensures)
-    c.forget.ensures.bindings c.forget.ensures.store c.forget.ensures.tape c.forget.ensures.work
+    c.requires.machine c.last_environment-kept.ensures (simp (to_z-of_z, c.ranges.number) at c.in_ok-bound_turn.ensures) c.forget.ensures
 
 pub bound_turn-returns : goal.bound_turn-returns
 bound_turn-returns t c =

@@ -12,31 +12,34 @@ use Rattle.inliner.specs.inside.Calls.{chain_tree}
 use Rattle.inliner.proofs.machine.Machine.+run.Given as goal
 
 abbrev pub decreases-run : goal.decreases-run
-decreases-run l = l.frame.left * 9
+decreases-run l = l.frame.left * 10 + 1
+
+abbrev pub decreases-entered : goal.decreases-entered
+decreases-entered l = l.frame.left * 10
 
 abbrev pub decreases-term : goal.decreases-term
-decreases-term l = l.frame.left * 9 + 8
+decreases-term l = l.frame.left * 10 + 9
 
 abbrev pub decreases-reg : goal.decreases-reg
-decreases-reg l = l.frame.left * 9 + 6
+decreases-reg l = l.frame.left * 10 + 7
 
 abbrev pub decreases-claimed : goal.decreases-claimed
-decreases-claimed l = l.frame.left * 9 + 6
+decreases-claimed l = l.frame.left * 10 + 7
 
 abbrev pub decreases-assignment : goal.decreases-assignment
-decreases-assignment l = l.frame.left * 9 + 6
+decreases-assignment l = l.frame.left * 10 + 7
 
 abbrev pub decreases-chain : goal.decreases-chain
-decreases-chain l = l.frame.left * 9 + 6
+decreases-chain l = l.frame.left * 10 + 7
 
 abbrev pub decreases-bits : goal.decreases-bits
-decreases-bits l = l.frame.left * 9 + 5
+decreases-bits l = l.frame.left * 10 + 6
 
 abbrev pub decreases-link : goal.decreases-link
-decreases-link l = l.frame.left * 9 + 5
+decreases-link l = l.frame.left * 10 + 6
 
 abbrev pub decreases-bit : goal.decreases-bit
-decreases-bit l = l.frame.left * 9 + 1
+decreases-bit l = l.frame.left * 10 + 2
 
 abbrev pub invariant-bits-loop-term : goal.invariant-bits-loop-term
 invariant-bits-loop-term l =
@@ -51,43 +54,43 @@ invariant-chain-loop-term l =
     (state_of l.self))
 
 abbrev pub decreases-block : goal.decreases-block
-decreases-block l = l.frame.left * 9 + 7
+decreases-block l = l.frame.left * 10 + 8
 
 abbrev pub decreases-items : goal.decreases-items
-decreases-items l = l.frame.left * 9 + 6
+decreases-items l = l.frame.left * 10 + 7
 
 abbrev pub decreases-repeat : goal.decreases-repeat
-decreases-repeat l = l.frame.left * 9 + 4
+decreases-repeat l = l.frame.left * 10 + 5
 
 abbrev pub decreases-turns : goal.decreases-turns
-decreases-turns l = l.frame.left * 9 + 9
+decreases-turns l = l.frame.left * 10 + 10
 
 abbrev pub decreases-turn : goal.decreases-turn
-decreases-turn l = l.frame.left * 9 + 8
+decreases-turn l = l.frame.left * 10 + 9
 
 abbrev pub decreases-bound_turn : goal.decreases-bound_turn
-decreases-bound_turn l = l.frame.left * 9 + 7
+decreases-bound_turn l = l.frame.left * 10 + 8
 
 abbrev pub decreases-item : goal.decreases-item
-decreases-item l = l.frame.left * 9 + 5
+decreases-item l = l.frame.left * 10 + 6
 
 abbrev pub decreases-at : goal.decreases-at
-decreases-at l = l.frame.left * 9 + 6
+decreases-at l = l.frame.left * 10 + 7
 
 abbrev pub decreases-rotation : goal.decreases-rotation
-decreases-rotation l = l.frame.left * 9 + 6
+decreases-rotation l = l.frame.left * 10 + 7
 
 abbrev pub decreases-append : goal.decreases-append
-decreases-append l = l.frame.left * 9 + 6
+decreases-append l = l.frame.left * 10 + 7
 
 abbrev pub decreases-apply : goal.decreases-apply
-decreases-apply l = l.frame.left * 9 + 6
+decreases-apply l = l.frame.left * 10 + 7
 
 abbrev pub decreases-argument : goal.decreases-argument
-decreases-argument l = l.frame.left * 9 + 5
+decreases-argument l = l.frame.left * 10 + 6
 
 abbrev pub decreases-call : goal.decreases-call
-decreases-call l = l.left * 9 + 4
+decreases-call l = l.left * 10 + 5
 
 abbrev pub invariant-items-loop-item : goal.invariant-items-loop-item
 invariant-items-loop-item l =
