@@ -10,7 +10,7 @@ ghost use Rattle.command_answers.specs.Lines.{bits_text, number_line, digits_of}
 use revc_base::Bits;
 use revc_io::{Buffer, Byte, Decimal, Each, Failed, Piece, Pieces, Sink, write_whole};
 
-/// Writes bits as digits, and a line feed.
+/// Writes bits as digits, and a line feed. Where it fails, the sink took a front of the text.
 pub fn write_digits<K: Sink>(bits: &[bool], out: &mut K) -> Result<(), Failed>
     ensures bytes { Writes result (K.held out.old) (K.held out.new) (bits_text bits.now) }
     ensures cause { HasCause (K.faults out.old) (K.faults out.new) result }
@@ -18,7 +18,8 @@ pub fn write_digits<K: Sink>(bits: &[bool], out: &mut K) -> Result<(), Failed>
     write_whole(BitLine(bits), out)
 }
 
-/// Writes lists of bits as digits, a line for each.
+/// Writes lists of bits as digits, a line for each. Where it fails, the sink took a front of the
+/// text.
 pub fn write_lines<K: Sink>(lines: &[Bits], out: &mut K) -> Result<(), Failed>
     ensures bytes { Writes result (K.held out.old) (K.held out.new)
         (flat_map bits_text lines.now) }
@@ -27,7 +28,8 @@ pub fn write_lines<K: Sink>(lines: &[Bits], out: &mut K) -> Result<(), Failed>
     write_whole(Each(BitLines(lines)), out)
 }
 
-/// Writes a decimal number between two pieces of text.
+/// Writes a decimal number between two pieces of text. Where it fails, the sink took a front of
+/// the whole.
 pub fn write_number<K: Sink>(
     out: &mut K,
     head: &[u8],
@@ -41,7 +43,7 @@ pub fn write_number<K: Sink>(
     write_whole((head, Decimal(number), tail), out)
 }
 
-/// Writes numbers behind words, a line for each.
+/// Writes numbers behind words, a line for each. Where it fails, the sink took a front of the text.
 pub fn write_numbers<K: Sink>(lines: &[(&[u8], u64)], out: &mut K) -> Result<(), Failed>
     ensures bytes { Writes result (K.held out.old) (K.held out.new)
         (flat_map (λ line. number_line line.0.now line.1) lines.now) }

@@ -53,7 +53,8 @@ impl Bits {
         &self.bits
     }
 
-    /// One bit for each byte of the word, true for `1`. Memory is taken only for a word of digits.
+    /// One bit for each byte of the word, true for `1`. `BadDigit` names the first byte that is
+    /// neither `0` nor `1`; memory is taken only where there is none.
     pub fn from_word(alloc: Global, word: &str) -> Result<Bits, BitsFault>
         requires { length word.now < 2 ^ 32 }
         ensures ok { IfOk result (λ bits. IsWordOf word.now bits) }

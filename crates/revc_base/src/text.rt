@@ -29,7 +29,7 @@ impl Text {
     /// The most bytes that a text has.
     pub const MOST: usize = MOST_NAME_BYTES;
 
-    /// The text of these bytes.
+    /// The text of these bytes, of which there are 1 to 64. It fails only for want of memory.
     pub fn new(alloc: Global, bytes: &[u8]) -> Result<Text, Memory>
         requires some { 1 ≤ length bytes.now }
         requires few { length bytes.now ≤ MOST_NAME_BYTES }

@@ -177,7 +177,13 @@ fn cut(alloc: Global, text: &[u8]) -> Result<Vec<Token>, LexFault>
 /// the last byte.
 ///
 /// Lines and columns are counted from 1, a column in bytes; a line feed ends a line. The longest
-/// token is taken at each place. The first place at which the text cannot be cut so is refused.
+/// token is taken at each place.
+///
+/// # Errors
+///
+/// The first place at which the text cannot be cut so: `BadByte` where no token, blank or comment
+/// begins, `LongName` at a name of more than 64 bytes, `LongNumber` at a number of more than 4
+/// digits. Beside that only `Memory`.
 pub fn tokens(alloc: Global, text: &[u8]) -> Result<Vec<Token>, LexFault>
     requires { length text.now + 1 < 2 ^ 32 }
 

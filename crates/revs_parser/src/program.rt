@@ -211,10 +211,14 @@ fn answer(tokens: &[Token], read: Result<(Vec<Param>, Term), Stop>) -> Result<Pr
 /// The program of which the tokens before `End` are the sentence, with every `back` 0.
 ///
 /// The list ends with `End` and holds no other. Recursive descent with one token of look-ahead,
-/// linear in the tokens. A refusal names the first token at which no program can go on (`Syntax`),
-/// the first that opens level 101 (`Nesting`), or, in a whole sentence, the first parameter at
-/// which the widths pass their limits (`Inputs`). Each list of tokens has one of these answers, and
-/// beside it only `Memory`.
+/// linear in the tokens.
+///
+/// # Errors
+///
+/// The first token at which no program can go on (`Syntax`), the first that opens level 101
+/// (`Nesting`), or, in a whole sentence, the first parameter whose width is 0 or with which there
+/// are more than 1,024 inputs (`Inputs`). Each list of tokens has one of these answers, and beside
+/// it only `Memory`.
 pub fn parse(alloc: Global, tokens: &[Token]) -> Result<Program, ParseFault>
     requires ended { IsEnded tokens.now }
     requires few { length tokens.now < 2 ^ 32 }

@@ -11,11 +11,11 @@ pub enum Cause {
     NotRegister,
     /// The value must be a function.
     NotFunction,
-    /// An index is out of range.
+    /// An index is negative, or not below the register's length.
     Index,
-    /// The places of a slice are not in order, or out of range.
+    /// The places of a slice are negative, not in order, or past the end.
     Slice,
-    /// The number of a rotation is not below the register's length.
+    /// The number of a rotation is negative, or not below the register's length.
     Rotate,
     /// A register would have more than 4,096 places.
     Length,
@@ -23,7 +23,7 @@ pub enum Cause {
     Gone,
     /// The program's value is neither a bit nor a register.
     NoOutput,
-    /// A term would be run at a depth above 400.
+    /// A term or a `for` would be run at a depth above 400.
     Depth,
     /// The work would pass 16,777,216.
     Work,
