@@ -11,6 +11,7 @@ MOST_LINES = 16_384
 MOST_GATES = 4_000_000
 MOST_TIDIED = 65_536
 ONE = "main (a : bool) = "
+PROFILE_2 = "revs 2\n" + ONE
 QASM = b"OPENQASM 2.0;\nqreg a[4];\n"
 
 
@@ -75,6 +76,32 @@ def far_names(more: int) -> str:
     return "main (a : bool) = {\n" + lets + uses + doubled + "d15 a;\n" + "a;" * (103_824 + more) + "a }"
 
 
+def turns(more: int) -> str:
+    """Turns that each bind two names: all the work that there may be. A turn of the inner `for` counts two, one of the
+    outer two more."""
+    loops = "for i in 1 .. 4000 do { for j in 1 .. 2096 do { let k = j; }; }; "
+    return PROFILE_2 + "{ " + loops + "a; " * (1_213 + more) + "a }"
+
+
+def turns_of_registers(more: int) -> str:
+    """Turns that each bind a register of 1,024 places, which counts them."""
+    head = "revs 2\nmain (r : bool[1024]) = { "
+    return head + "for i in 1 .. 16 do { for j in 1 .. 1021 do { let t = r; }; }; " + "r; " * (16_445 + more) + "r }"
+
+
+def bindings(more: int) -> str:
+    """Calls of functions that bind names, again and again: all the work that there may be."""
+    lets = "let d0 x = { %sx };\n" % ("let k = x; " * 500)
+    doubled = "".join("let d%d x = d%d (d%d x);\n" % (level + 1, level, level) for level in range(15))
+    return "main (a : bool) = {\n" + lets + doubled + "let b = d15 a;\n" + "a; " * (163_824 + more) + "a }"
+
+
+def loops(more: int) -> str:
+    """Loops in each other, one turn each, at as many levels as there may be."""
+    levels = 98 + more
+    return PROFILE_2 + "{ " + "for i in 1 .. 1 do { " * levels + "a; " + "}; " * levels + "a }"
+
+
 def chain(nodes: int) -> bytes:
     """A chain of so many nodes, each an operand of the next one alone."""
     return ("main (a : bool) (b : bool) = " + "<>".join("ab"[number % 2] for number in range(nodes + 1))).encode()
@@ -109,6 +136,10 @@ PROGRAMS = [
     Limit("depth", said("compile"), run(at_depth), 3, "Depth"),
     Limit("work, by rotations", said("eval " + "1" * 1_024), run(at_work), 3, "Work"),
     Limit("work, by names behind 60,000 others", said("eval 1"), text(far_names), 3, "Work"),
+    Limit("levels: loops", said("compile"), text(loops), 3, "Nesting"),
+    Limit("work, by turns that bind numbers", said("eval 1"), text(turns), 3, "Work"),
+    Limit("work, by turns that bind registers", said("eval " + "1" * 1_024), text(turns_of_registers), 3, "Work"),
+    Limit("work, by functions that bind", said("eval 1"), text(bindings), 3, "Work"),
     Limit("writes", said("eval 1"), run(at_writes), 3, "Writes"),
     Limit("writes, none a node", said("compile"), run(at_writes), 3, "Writes"),
     Limit("claims", said("check"), run(at_claims), 3, "Claims", at=4),
