@@ -136,8 +136,8 @@ class Circuit:
     def phase(self, form: str = "kickback") -> str:
         """OpenQASM that flips the sign of the inputs on which the output is 1, as Grover's search wants it.
 
-        `kickback` runs the circuit once, with the output line in the state minus, and relies on its XORing the output
-        into that line, which is tested and not proved; `z` runs it, applies Z, and runs it backwards.
+        `kickback` runs the circuit once, with the output line in the state minus: it XORs the output into that line,
+        whatever that holds, under every plan but `compact`. `z` runs it, applies Z, and runs it backwards.
         """
         if self.source.outputs != 1:
             raise RevcError("phase() is for one output bit, and `%s` has %d: return a comparison, or .all()"
