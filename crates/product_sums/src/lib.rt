@@ -1,0 +1,12 @@
+//! Products of exclusive sums of atoms: a product is known, or the sum of known ones, or an atom of
+//! its own.
+//!
+//! Fingerprints tell which known products a new product may be the sum of; algebra over a basis of
+//! all factors proves it. So nothing that is said of an answer rests on them.
+#![tactic(auto)]
+
+mod fault;
+mod products;
+
+pub use fault::ProductsFault;
+pub use products::Products;
