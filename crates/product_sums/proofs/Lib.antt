@@ -1,1 +1,3 @@
+pub mod DeriveLemmas
+pub mod RecordLemmas
 pub mod TableLemmas

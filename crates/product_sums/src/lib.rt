@@ -5,8 +5,16 @@
 //! all factors proves it. So nothing that is said of an answer rests on them.
 #![tactic(auto)]
 
+mod budget;
+mod derive;
 mod fault;
+mod find;
+mod index;
+mod keys;
+mod known;
+mod marks;
 mod products;
+mod search;
 
 pub use fault::ProductsFault;
 pub use products::Products;
