@@ -1,8 +1,7 @@
 -- The records of a table.
-use Rattle.std.proofs.Common.{◌≡◌, ℕ, zero, suc, ◌+◌, ◌&&◌, Bool, true, false, List, [], ◌∷◌, ◌++◌, cond, refl, sym, ap, subst, ◌∙◌, arith, inl, inr, ◌⊎◌}
+use Rattle.std.proofs.Common.{◌≡◌, ℕ, ◌+◌, ◌&&◌, Bool, true, false, List, [], ◌∷◌, ◌++◌, cond, refl, sym, ap, subst, ◌∙◌, arith, inl, inr}
 use Rattle.std.proofs.Common.{get_or, length, IfOk, IfSome, Option, Some, None, Result, Ok, Err}
 use Rattle.std.proofs.Math.Dec.{ltb}
-use Rattle.std.specs.List.{AllByRecursion}
 use Rattle.std.proofs.lemmas.Bool.{ltb-true, true≢false}
 use Rattle.list_facts.proofs.AllLemmas.{AllByRecursion-at, AllByRecursion-push}
 use Rattle.linear_forms.specs.declared.form.Term.{Term}

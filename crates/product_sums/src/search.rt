@@ -16,8 +16,8 @@ const MOST: usize = 96;
 // The most candidates of a key: of more, the first and the last half as many.
 const FEW: usize = 32;
 
-// Products whose marks' sum is that of the factors, among those near the factors, those met last, and
-// those near to these.
+// Products whose marks' sum is the mark of these factors, among those near the factors, those met
+// last, and those near to these.
 pub fn search(
     known: &[Known],
     index: &Index,

@@ -11,7 +11,9 @@ loop-place-preserved c =
     let second = c.args.second.now in
     let basis = c.args.basis.now in
     let sums = c.in_ok-sums.sums in
+    let k = c.in-Some-get.k.now in
+    let at = c.in-Some-get.ensures.lookup in
+    let pair = subst (λ (found : Option Pair). IfSome found (IsPairOf basis k.first k.second)) c.in-Some-2.is c.in_ok-pair-2.ensures in
     subst (λ (ps : List Pair). IsCollected known first second basis ps sums) (sym c.in_ok-push.ensures.items)
     (collected_more known first second basis c.loop-place.pairs.items c.loop-place.sums sums c.in-Some-2.pair
-    _ c.in-Some-get.k.now c.in-Some-get.ensures.lookup.0 c.in-Some-get.ensures.lookup.1 (subst (λ (found : Option Pair). IfSome found (IsPairOf basis c.in-Some-get.k.now.first c.in-Some-get.k.now.second)) c.in-Some-2.is c.in_ok-pair-2.ensures)
-    c.in_ok-sums.ensures c.loop-place.invariant)
+    _ k at.0 at.1 pair c.in_ok-sums.ensures c.loop-place.invariant)

@@ -7,5 +7,8 @@ use Rattle.product_sums.proofs.products.Products.recalled.Goals as goal
 pub returns-clause-product : goal.returns-clause-product
 returns-clause-product c =
     let known = c.self.inside.known.items in
-    let follows = subst (λ (ks : List Known). IfOk c.recalled.result (λ found. IfSome found (Follows ks c.args.first.now c.args.second.now))) c.deref.ensures.value c.recalled.ensures in
-    found_product c.self.inside.given c.self.inside.atoms known c.args.first.now c.args.second.now c.recalled.result c.self.invariant follows
+    let first = c.args.first.now in
+    let second = c.args.second.now in
+    let follows = subst (λ (ks : List Known). IfOk c.recalled.result (λ found. IfSome found (Follows ks first second)))
+    c.deref.ensures.value c.recalled.ensures in
+    found_product c.self.inside.given c.self.inside.atoms known first second c.recalled.result c.self.invariant follows
