@@ -114,7 +114,7 @@ behind_size : (q : Comparison) (bits : List Bool) → length bits ≡ variables_
 behind_size q bits size = length-drop (inputs_in q) bits ∙ omega (arith, size)
 
 -- an input line, an output line that has a variable, and a borrowed line
-input_bit : (q : Comparison) (bits : List Bool) (i : ℕ) → length bits ≡ variables_in q → i < inputs_in q
+pub input_bit : (q : Comparison) (bits : List Bool) (i : ℕ) → length bits ≡ variables_in q → i < inputs_in q
     → bit_of (start_on q bits) i ≡ bit_of bits i
 input_bit q bits i size low =
     let n : ℕ = inputs_in q in
@@ -122,7 +122,7 @@ input_bit q bits i size low =
     get_or_append_left (take n bits) (output_bits q bits ++ (zeros (work_lines q) ++ borrowed_bits q bits)) false i (omega (arith, low, front))
     ∙ get_or-take n bits i false low
 
-output_bit : (q : Comparison) (bits : List Bool) (k : ℕ) → length bits ≡ variables_in q → k < output_variables q.start q.program.outputs
+pub output_bit : (q : Comparison) (bits : List Bool) (k : ℕ) → length bits ≡ variables_in q → k < output_variables q.start q.program.outputs
     → bit_of (start_on q bits) (inputs_in q + k) ≡ bit_of bits (inputs_in q + k)
 output_bit q bits k size low =
     let n : ℕ = inputs_in q in
@@ -133,7 +133,7 @@ output_bit q bits k size low =
     ∙ bit-held_by q.start q.program.outputs q.borrow k (drop n bits) rest (behind_size q bits size) low
     ∙ get_or-drop n bits k false
 
-borrowed_bit : (q : Comparison) (bits : List Bool) (k : ℕ) → length bits ≡ variables_in q
+pub borrowed_bit : (q : Comparison) (bits : List Bool) (k : ℕ) → length bits ≡ variables_in q
     → bit_of (start_on q bits) (inputs_in q + (q.program.outputs + (work_lines q + k)))
     ≡ bit_of bits (inputs_in q + (output_variables q.start q.program.outputs + k))
 borrowed_bit q bits k size =

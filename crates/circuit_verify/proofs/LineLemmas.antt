@@ -25,7 +25,7 @@ use Rattle.circuit_verify.proofs.NumberLemmas.{bit-at, known-at, numbers-grown}
 
 -- ---- controls
 
-positive_met : (bits : List Bool) (control : Control) → control.positive ≡ true → is_met bits control ≡ bit_of bits control.line
+pub positive_met : (bits : List Bool) (control : Control) → control.positive ≡ true → is_met bits control ≡ bit_of bits control.line
 positive_met bits control positive = ap (λ p. if p then bit_of bits control.line else not (bit_of bits control.line)) positive
 
 -- all controls are met where both of their numbers have 1
@@ -61,7 +61,7 @@ controls_known table lines always (c ∷ (d ∷ rest)) known is inside =
 -- ---- one gate
 
 -- a flip sets its target
-gate_sets : (gate : GateView) (target : ℕ) (bits : List Bool) → gate.op ≡ Flip target
+pub gate_sets : (gate : GateView) (target : ℕ) (bits : List Bool) → gate.op ≡ Flip target
     → after_gate gate bits ≡ set bits target (xor (list_all (is_met bits) gate.controls) (bit_of bits target))
 gate_sets gate target bits is =
     ap (λ (op : Op). after_gate (record { controls = gate.controls; op = op }) bits) is ∙ flip_sets gate.controls target bits
@@ -98,7 +98,7 @@ flip_made lines gate target always number left right controls old new r flips in
     ∙ flip_is old.nodes lines gate target always flips inside few positive placed stands a) made
 
 -- a flip changes nothing but its target
-same_elsewhere : (gate : GateView) (target : ℕ) (bits : List Bool) → gate.op ≡ Flip target → target < length bits
+pub same_elsewhere : (gate : GateView) (target : ℕ) (bits : List Bool) → gate.op ≡ Flip target → target < length bits
     → set bits target (bit_of (after_gate gate bits) target) ≡ after_gate gate bits
 same_elsewhere gate target bits is inside =
     let bit : Bool = xor (list_all (is_met bits) gate.controls) (bit_of bits target) in

@@ -33,7 +33,7 @@ use Rattle.circuit_verify.specs.Comparisons.{start_on, variables_in, wanted_on, 
 use Rattle.circuit_verify.specs.LineFunctions.{Line, Step, Wanted}
 use Rattle.circuit_verify.specs.Verdicts.{HasEnoughLines, IsComparable, verify_fault}
 use Rattle.circuit_verify.specs.declared.fault.VerifyFault.TheVariants as faults
-use Rattle.circuit_verify.specs.inside.Compared.{ComparedView, IsReady, comparison}
+use Rattle.circuit_verify.specs.Compared.{ComparedView, IsReady, comparison}
 use Rattle.circuit_verify.specs.inside.Numbers.{AreEnds, AreLaid, AreNumbersOf, GrowsBy, bits_in, first_values, held_numbers}
 use Rattle.circuit_verify.specs.inside.Numbers.{holder_function, line_function_of, node_function_of, sig_function_of}
 use Rattle.circuit_verify.proofs.AskLemmas.{IsAnswered, IsHeldBit, answered, held_bit_of}
@@ -308,7 +308,7 @@ held_found v nodes bits behind held start outputs inputs never is_start is_outpu
 abbrev pub wanted_bits : (v : ComparedView) → List Bool → List Bool
 wanted_bits v bits = added (output_bits (comparison v) bits) (settled_outputs v.graph (input_bits (comparison v) bits))
 
-length-wanted_bits : (v : ComparedView) (bits : List Bool) → length bits ≡ variables_in (comparison v)
+pub length-wanted_bits : (v : ComparedView) (bits : List Bool) → length bits ≡ variables_in (comparison v)
     → length (wanted_bits v bits) ≡ length v.graph.outputs
 length-wanted_bits v bits size =
     let q = comparison v in
@@ -350,7 +350,7 @@ wanted_is v nodes held outputs k low are = λ a.
     ∙ sym (get_or-zip2 xor now out k false false false (omega (arith, low, wide)) (omega (arith, low, many)))
 
 -- which is held by a line as it should be
-wanted_bit : (v : ComparedView) (bits : List Bool) (k : ℕ) → length bits ≡ variables_in (comparison v) → k < length v.graph.outputs
+pub wanted_bit : (v : ComparedView) (bits : List Bool) (k : ℕ) → length bits ≡ variables_in (comparison v) → k < length v.graph.outputs
     → bit_of (wanted_bits v bits) k ≡ bit_of (wanted_on (comparison v) bits) (inputs_in (comparison v) + k)
 wanted_bit v bits k size low =
     let q = comparison v in
@@ -400,7 +400,7 @@ all_wanted v nodes numbers k most are =
     (λ b size. take_all k (wanted_bits v b) (omega (arith, most, length-wanted_bits v b size))) are
 
 -- a number for each line, before and behind the gates
-length-wanted : (v : ComparedView) → IsReady v → (bits : List Bool) → length bits ≡ variables_in (comparison v)
+pub length-wanted : (v : ComparedView) → IsReady v → (bits : List Bool) → length bits ≡ variables_in (comparison v)
     → length (wanted_on (comparison v) bits) ≡ v.circuit.lines
 length-wanted v ready bits size =
     let q = comparison v in

@@ -63,9 +63,10 @@ same_lines gates work value i j h k b c one two three is =
     (subst (λ (z : List Bool). line_map gates (i ++ (z ++ (work ++ c))) ≡ i ++ (added z (value i) ++ (work ++ c))) two
     (subst (λ (z : List Bool). line_map gates (i ++ (h ++ (work ++ z))) ≡ i ++ (added h (value i) ++ (work ++ z))) three is))
 
-pub agrees : (q : Comparison) (nodes : List Triple) (now want : List ℕ)
-    → ((input : List Bool) → length (q.program.value input) ≡ q.program.outputs) → AreEnds q nodes now want → now ≡ want → Agrees q
-agrees q nodes now want many ends same = record {
+-- where all lines always end as they should, the circuit agrees
+pub agrees_where : (q : Comparison) → ((input : List Bool) → length (q.program.value input) ≡ q.program.outputs)
+    → ((bits : List Bool) → AreBitsFor q bits → line_map q.circuit.gates (start_on q bits) ≡ wanted_on q bits) → Agrees q
+agrees_where q many ended = record {
   size = λ input size. many input;
   adds = λ input held borrowed size wide may more.
       let n : ℕ = inputs_in q in
@@ -73,22 +74,25 @@ agrees q nodes now want many ends same = record {
       let v : ℕ = output_variables q.start o in
       let given : List Bool = given_by q.start held in
       let bits : List Bool = input ++ (given ++ borrowed) in
-      let a : Assignment = assignment_at (ordered_in q) bits in
       let count : length given ≡ v = length-given_by q.start held ∙ ap (output_variables q.start) wide in
       let are : AreBitsFor q bits = length-append input (given ++ borrowed) ∙ omega (arith, size, more, length-append given borrowed, count) in
       let front : take n bits ≡ input = ap (λ (n : ℕ). take n bits) (sym size) ∙ take-append_seam input (given ++ borrowed) in
       let back : drop n bits ≡ given ++ borrowed = ap (λ (n : ℕ). drop n bits) (sym size) ∙ drop-append_seam input (given ++ borrowed) in
-      let ended : line_map q.circuit.gates (start_on q (bits_in q a)) ≡ wanted_on q (bits_in q a) =
-      sym (ends.now_are.same a) ∙ ap (λ (ns : List ℕ). map (λ n. function_of nodes n a) ns) same ∙ ends.want_are.same a in
-      let here : line_map q.circuit.gates (start_on q bits) ≡ wanted_on q bits =
-      subst (λ (z : List Bool). line_map q.circuit.gates (start_on q z) ≡ wanted_on q z) (at_assignment q bits are) ended in
       let outputs : output_bits q bits ≡ held = ap (held_by q.start o) back ∙ held_back q.start o held borrowed wide may in
       let others : borrowed_bits q bits ≡ borrowed = ap (drop v) back ∙ borrowed_back q.start o held borrowed wide in
       record {
         mapped = same_lines q.circuit.gates (zeros (work_lines q)) q.program.value (take n bits) input (output_bits q bits) held (borrowed_bits q bits)
-            borrowed front outputs others here;
+            borrowed front outputs others (ended bits are);
       };
 }
+
+pub agrees : (q : Comparison) (nodes : List Triple) (now want : List ℕ)
+    → ((input : List Bool) → length (q.program.value input) ≡ q.program.outputs) → AreEnds q nodes now want → now ≡ want → Agrees q
+agrees q nodes now want many ends same = agrees_where q many (λ bits are.
+    let a : Assignment = assignment_at (ordered_in q) bits in
+    let ended : line_map q.circuit.gates (start_on q (bits_in q a)) ≡ wanted_on q (bits_in q a) =
+    sym (ends.now_are.same a) ∙ ap (λ (ns : List ℕ). map (λ n. function_of nodes n a) ns) same ∙ ends.want_are.same a in
+    subst (λ (z : List Bool). line_map q.circuit.gates (start_on q z) ≡ wanted_on q z) (at_assignment q bits are) ended)
 
 -- ---- where two numbers differ
 

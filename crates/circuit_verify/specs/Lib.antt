@@ -1,3 +1,4 @@
+pub mod Compared
 pub mod Comparisons
 pub mod LineFunctions
 pub mod Verdicts

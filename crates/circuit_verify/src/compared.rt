@@ -2,21 +2,26 @@
 ghost use Rattle.std.specs.Prelude.{◌≡◌, ◌≤◌, ◌+◌, length, sum};
 ghost use Rattle.circuit_verify.specs.Comparisons.{inputs_in, output_variables, variables_in};
 ghost use Rattle.circuit_verify.specs.Comparisons.{work_lines};
-ghost use Rattle.circuit_verify.specs.inside.Compared.{IsReady, comparison, ComparedView};
+ghost use Rattle.circuit_verify.specs.Compared.{IsReady, comparison, ComparedView};
 
 use circuit_plans::Start;
 use claim_check::Settled;
 use mct_circuit::Circuit;
 use std::marker::Model;
 
-// A settled graph with the widths of its parameters, and a circuit of narrow gates that has enough
-// lines.
+/// A settled graph with the widths of its parameters, and a circuit of narrow gates that has enough
+/// lines.
 #[derive(Drop)]
 pub struct Compared<'s> {
+    /// What the circuit is to compute.
     pub graph: &'s Settled,
+    /// The widths of its parameters.
     pub params: &'s [u32],
+    /// The circuit.
     pub circuit: &'s Circuit,
+    /// What its output lines may hold before the gates.
     pub start: Start,
+    /// How many of its lines, the last ones, are borrowed.
     pub borrow: u32,
 }
 
@@ -41,7 +46,7 @@ impl<'s> Model for Compared<'s> {
 }
 
 impl<'s> Compared<'s> {
-    // The number of inputs, of output lines that have variables, and of borrowed lines.
+    /// The number of inputs, of output lines that have variables, and of borrowed lines.
     pub fn variables(&self) -> u32
         ensures count { result ≡ variables_in (comparison self.now) }
         ensures ready { IsReady self.now }
@@ -49,7 +54,7 @@ impl<'s> Compared<'s> {
         self.graph.inputs() + self.output_variables() + self.borrow
     }
 
-    // How many output lines have variables.
+    /// How many output lines have variables.
     pub fn output_variables(&self) -> u32
         ensures count { result
             ≡ output_variables self.now.start (length self.now.graph.outputs) }
@@ -61,28 +66,28 @@ impl<'s> Compared<'s> {
         }
     }
 
-    // What the output lines may hold before the gates.
+    /// What the output lines may hold before the gates.
     pub fn start(&self) -> Start
         ensures { result ≡ self.now.start }
     {
         self.start
     }
 
-    // How many lines are input lines.
+    /// How many lines are input lines.
     pub fn inputs(&self) -> u32
         ensures { result ≡ inputs_in (comparison self.now) }
     {
         self.graph.inputs()
     }
 
-    // How many are output lines.
+    /// How many are output lines.
     pub fn outputs(&self) -> u32
         ensures { result ≡ length self.now.graph.outputs }
     {
         self.graph.outputs().len() as u32
     }
 
-    // How many are work lines.
+    /// How many are work lines.
     pub fn work(&self) -> u32
         ensures { result ≡ work_lines (comparison self.now) }
     {

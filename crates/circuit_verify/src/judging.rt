@@ -6,7 +6,7 @@ ghost use Rattle.decision_diagram.specs.Functions.{exclusive_or};
 ghost use Rattle.claim_check.specs.Variables.{AreVariables};
 ghost use Rattle.circuit_verify.specs.Comparisons.{order_in, variables_in};
 ghost use Rattle.circuit_verify.specs.Verdicts.{IsVerified, IsVerifyFault};
-ghost use Rattle.circuit_verify.specs.inside.Compared.{comparison};
+ghost use Rattle.circuit_verify.specs.Compared.{comparison};
 ghost use Rattle.circuit_verify.specs.inside.Numbers.{AreEnds, DifferAt, HoldsLines, IsLeastApart};
 
 use crate::VerifyFault;

@@ -16,6 +16,8 @@ mod places;
 mod verifying;
 mod walking;
 
+pub use compared::Compared;
 pub use fault::VerifyFault;
+pub use gates::{first_wide, target_of};
 pub use law::{comparisons_end_in_one_way, said_of_tapes};
 pub use verifying::verify;

@@ -5,7 +5,7 @@ ghost use Rattle.decision_diagram.specs.Growth.{Computes, StandsFor};
 ghost use Rattle.claim_check.specs.Settled.{settled_outputs};
 ghost use Rattle.circuit_verify.specs.Comparisons.{input_bits};
 ghost use Rattle.circuit_verify.specs.Verdicts.{IsVerifyFault};
-ghost use Rattle.circuit_verify.specs.inside.Compared.{comparison};
+ghost use Rattle.circuit_verify.specs.Compared.{comparison};
 ghost use Rattle.circuit_verify.specs.inside.Numbers.{AreKnown, AreNumbersOf, GrowsBy, HoldsLines};
 ghost use Rattle.circuit_verify.specs.inside.Numbers.{base_number, first_values};
 ghost use Rattle.circuit_verify.specs.inside.Numbers.{node_function_of, sig_function_of};

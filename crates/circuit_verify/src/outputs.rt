@@ -4,7 +4,7 @@ ghost use Rattle.claim_check.specs.Settled.{settled_outputs};
 ghost use Rattle.circuit_plans.specs.Plans.{added};
 ghost use Rattle.circuit_verify.specs.Comparisons.{input_bits, output_bits, output_variables};
 ghost use Rattle.circuit_verify.specs.Verdicts.{IsVerifyFault};
-ghost use Rattle.circuit_verify.specs.inside.Compared.{comparison};
+ghost use Rattle.circuit_verify.specs.Compared.{comparison};
 ghost use Rattle.circuit_verify.specs.inside.Numbers.{AreNumbersOf, GrowsBy, HoldsLines};
 ghost use Rattle.circuit_verify.specs.inside.Numbers.{held_numbers};
 

@@ -4,7 +4,7 @@ ghost use Rattle.list_facts.specs.Lists.{below};
 ghost use Rattle.claim_check.specs.Variables.{AreVariables};
 ghost use Rattle.circuit_verify.specs.Comparisons.{order_in, variables_in};
 ghost use Rattle.circuit_verify.specs.Verdicts.{IsVerifyFault};
-ghost use Rattle.circuit_verify.specs.inside.Compared.{comparison};
+ghost use Rattle.circuit_verify.specs.Compared.{comparison};
 ghost use Rattle.circuit_verify.specs.inside.Numbers.{AreNumbersOf, GrowsBy, HoldsLines};
 
 use crate::VerifyFault;

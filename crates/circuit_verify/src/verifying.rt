@@ -4,7 +4,7 @@ ghost use Rattle.revs_tape.specs.Tapes.{AreWidths};
 ghost use Rattle.circuit_plans.specs.declared.plan.TheConstants.{MOST_BORROWED};
 ghost use Rattle.circuit_verify.specs.Comparisons.{beside, of_settled};
 ghost use Rattle.circuit_verify.specs.Verdicts.{IsVerified, IsVerifyFault};
-ghost use Rattle.circuit_verify.specs.inside.Compared.{comparison};
+ghost use Rattle.circuit_verify.specs.Compared.{comparison};
 
 use crate::VerifyFault;
 use crate::compared::Compared;

@@ -7,7 +7,7 @@ ghost use Rattle.mct_circuit.specs.declared.gate.Op.TheVariants.{Flip};
 ghost use Rattle.mct_circuit.specs.Gates.{IsGateOn, IsNarrow, line_map};
 ghost use Rattle.circuit_verify.specs.Comparisons.{start_on};
 ghost use Rattle.circuit_verify.specs.Verdicts.{IsVerifyFault};
-ghost use Rattle.circuit_verify.specs.inside.Compared.{comparison};
+ghost use Rattle.circuit_verify.specs.Compared.{comparison};
 ghost use Rattle.circuit_verify.specs.inside.Numbers.{AreEnds, AreKnown, AreLaid};
 ghost use Rattle.circuit_verify.specs.inside.Numbers.{AreNumbersOf, GrowsBy};
 ghost use Rattle.circuit_verify.specs.inside.Numbers.{HoldsLines, control_numbers};
@@ -17,10 +17,11 @@ ghost use Rattle.circuit_verify.specs.Comparisons.{order_in, variables_in};
 
 use crate::VerifyFault;
 use crate::compared::Compared;
+use crate::gates::target_of;
 use crate::outputs::output_numbers;
 use crate::places::number_bits;
 use decision_diagram::{Dd, DdFault, Diagram};
-use mct_circuit::{Control, Gate, Op};
+use mct_circuit::{Control, Gate};
 use std::alloc::{AllocError, Global};
 
 // The numbers of the lines behind all gates, and those that they should have.
@@ -67,17 +68,6 @@ fn joined(
     lines.extend_from_slice(work)?;
     lines.extend_from_slice(borrowed)?;
     Ok(lines)
-}
-
-// The line that a narrow gate flips.
-fn target_of(gate: &Gate) -> u32
-    requires { IsNarrow gate.now }
-    ensures { gate.now.op ≡ Flip result }
-{
-    match gate.op() {
-        Op::Flip(target) => target,
-        Op::Swap(first, _) => first, // no narrow gate swaps
-    }
 }
 
 // The numbers of the controls of a narrow gate, each `always` where there is none.

@@ -3,7 +3,7 @@ use Rattle.std.proofs.lemmas.List.{get_or_read, length-map}
 use Rattle.decision_diagram.specs.Diagrams.{IsNumber, function_of}
 use Rattle.decision_diagram.specs.Functions.{exclusive_or}
 use Rattle.claim_check.specs.Settled.{settled_value}
-use Rattle.circuit_verify.specs.inside.Compared.{comparison}
+use Rattle.circuit_verify.specs.Compared.{comparison}
 use Rattle.circuit_verify.specs.inside.Numbers.{DifferAt, IsLeastApart}
 use Rattle.circuit_verify.proofs.NumberLemmas.{known-at}
 use Rattle.circuit_verify.proofs.StepLemmas.{ends_many}

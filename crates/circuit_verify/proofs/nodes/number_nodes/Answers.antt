@@ -4,7 +4,7 @@ use Rattle.revc_base.proofs.ResultLemmas.{passes_on}
 use Rattle.circuit_verify.specs.Comparisons.{input_bits}
 use Rattle.circuit_verify.specs.LineFunctions.{Step}
 use Rattle.circuit_verify.specs.Verdicts.{IsVerifyFault}
-use Rattle.circuit_verify.specs.inside.Compared.{ComparedView, comparison}
+use Rattle.circuit_verify.specs.Compared.{ComparedView, comparison}
 use Rattle.circuit_verify.specs.inside.Numbers.{AreNumbersOf, first_values, holder_function, node_function_of}
 use Rattle.circuit_verify.proofs.AskLemmas.{IsAnswered}
 use Rattle.circuit_verify.proofs.NumberLemmas.{numbers-grown}

@@ -1,5 +1,5 @@
 use Rattle.circuit_verify.specs.Comparisons.{input_bits}
-use Rattle.circuit_verify.specs.inside.Compared.{comparison}
+use Rattle.circuit_verify.specs.Compared.{comparison}
 use Rattle.circuit_verify.specs.inside.Numbers.{AreNumbersOf, GrowsBy, first_values}
 use Rattle.circuit_verify.proofs.nodes.number_nodes.Given as goal
 

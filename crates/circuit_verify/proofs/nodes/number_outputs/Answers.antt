@@ -5,7 +5,7 @@ use Rattle.dependency_graph.specs.Graphs.{IsKnownSig}
 use Rattle.decision_diagram.specs.Growth.{StandsFor}
 use Rattle.claim_check.specs.Settled.{settled_value}
 use Rattle.circuit_verify.specs.Comparisons.{input_bits}
-use Rattle.circuit_verify.specs.inside.Compared.{ComparedView, comparison}
+use Rattle.circuit_verify.specs.Compared.{ComparedView, comparison}
 use Rattle.circuit_verify.specs.inside.Numbers.{AreNumbersOf, sig_function_of}
 use Rattle.circuit_verify.proofs.StepLemmas.{all_outputs, outputs_more, sig_placed}
 use Rattle.circuit_verify.proofs.nodes.number_outputs.Goals as goal

@@ -1,7 +1,7 @@
 use Rattle.std.proofs.Common.{map, take}
 use Rattle.claim_check.specs.Settled.{settled_value}
 use Rattle.circuit_verify.specs.Comparisons.{input_bits}
-use Rattle.circuit_verify.specs.inside.Compared.{comparison}
+use Rattle.circuit_verify.specs.Compared.{comparison}
 use Rattle.circuit_verify.specs.inside.Numbers.{AreNumbersOf}
 use Rattle.circuit_verify.proofs.nodes.number_outputs.Given as goal
 

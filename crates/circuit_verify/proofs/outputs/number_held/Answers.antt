@@ -1,5 +1,5 @@
 use Rattle.std.proofs.Common.{arith}
-use Rattle.circuit_verify.specs.inside.Compared.{comparison}
+use Rattle.circuit_verify.specs.Compared.{comparison}
 use Rattle.circuit_verify.proofs.StepLemmas.{held_found, held_inside, many_bits}
 use Rattle.circuit_verify.proofs.outputs.number_held.Goals as goal
 

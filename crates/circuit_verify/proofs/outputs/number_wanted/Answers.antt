@@ -7,7 +7,7 @@ use Rattle.decision_diagram.proofs.GrowthLemmas.{StandsFor-same}
 use Rattle.list_facts.specs.Bits.{bit_of}
 use Rattle.revc_base.proofs.ResultLemmas.{passes_on}
 use Rattle.circuit_verify.specs.Verdicts.{IsVerifyFault}
-use Rattle.circuit_verify.specs.inside.Compared.{comparison}
+use Rattle.circuit_verify.specs.Compared.{comparison}
 use Rattle.circuit_verify.specs.inside.Numbers.{AreNumbersOf, bits_in}
 use Rattle.circuit_verify.proofs.AskLemmas.{IsAnswered}
 use Rattle.circuit_verify.proofs.NumberLemmas.{known-at, numbers-grown}

@@ -1,7 +1,7 @@
 use Rattle.std.proofs.Common.{ℕ, List, subst, sym}
 use Rattle.claim_check.specs.Settled.{settled_outputs}
 use Rattle.circuit_verify.specs.Comparisons.{input_bits, output_bits}
-use Rattle.circuit_verify.specs.inside.Compared.{comparison}
+use Rattle.circuit_verify.specs.Compared.{comparison}
 use Rattle.circuit_verify.specs.inside.Numbers.{AreNumbersOf, GrowsBy}
 use Rattle.circuit_verify.proofs.AskLemmas.{grows-further}
 use Rattle.circuit_verify.proofs.NumberLemmas.{numbers-grown}

@@ -2,7 +2,7 @@ use Rattle.std.proofs.Common.{ap, sum, subst, sym, arith, ◌∙◌}
 use Rattle.revs_tape.specs.VariableOrders.{variable_order}
 use Rattle.claim_check.specs.Variables.{AreVariables}
 use Rattle.circuit_verify.specs.Comparisons.{variables_behind}
-use Rattle.circuit_verify.specs.inside.Compared.{ComparedView, comparison}
+use Rattle.circuit_verify.specs.Compared.{ComparedView, comparison}
 use Rattle.circuit_verify.proofs.OrderLemmas.{variable_more, variables_are, variables_none}
 use Rattle.circuit_verify.proofs.places.all_variables.Goals as goal
 

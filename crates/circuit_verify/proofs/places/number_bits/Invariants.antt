@@ -1,5 +1,5 @@
 use Rattle.std.proofs.Common.{take}
-use Rattle.circuit_verify.specs.inside.Compared.{comparison}
+use Rattle.circuit_verify.specs.Compared.{comparison}
 use Rattle.circuit_verify.specs.inside.Numbers.{AreNumbersOf, GrowsBy}
 use Rattle.circuit_verify.proofs.places.number_bits.Given as goal
 

@@ -2,7 +2,7 @@ use Rattle.std.proofs.Common.{◌≡◌, ℕ, List, length, drop, sym, subst, �
 use Rattle.std.proofs.lemmas.List.{take-append-le, take_all}
 use Rattle.mct_circuit.specs.Gates.{line_map}
 use Rattle.circuit_verify.specs.Comparisons.{output_bits, start_on, wanted_on}
-use Rattle.circuit_verify.specs.inside.Compared.{comparison}
+use Rattle.circuit_verify.specs.Compared.{comparison}
 use Rattle.circuit_verify.specs.inside.Numbers.{AreLaid, AreNumbersOf, GrowsBy}
 use Rattle.circuit_verify.proofs.AskLemmas.{grows-further}
 use Rattle.circuit_verify.proofs.NumberLemmas.{numbers-grown}

@@ -3,7 +3,7 @@ use Rattle.mct_circuit.specs.Gates.{IsGateOn}
 use Rattle.revc_base.proofs.ResultLemmas.{one_fault, passes_on}
 use Rattle.circuit_verify.specs.declared.fault.VerifyFault.TheVariants as faults
 use Rattle.circuit_verify.specs.Verdicts.{IsVerifyFault}
-use Rattle.circuit_verify.specs.inside.Compared.{ComparedView, comparison}
+use Rattle.circuit_verify.specs.Compared.{ComparedView, comparison}
 use Rattle.circuit_verify.specs.inside.Numbers.{line_function_of}
 use Rattle.circuit_verify.proofs.AskLemmas.{IsAnswered}
 use Rattle.circuit_verify.proofs.LineLemmas.{lines_next}

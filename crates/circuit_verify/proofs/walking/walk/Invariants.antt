@@ -1,7 +1,7 @@
 use Rattle.std.proofs.Common.{take}
 use Rattle.mct_circuit.specs.Gates.{line_map}
 use Rattle.circuit_verify.specs.Comparisons.{start_on}
-use Rattle.circuit_verify.specs.inside.Compared.{comparison}
+use Rattle.circuit_verify.specs.Compared.{comparison}
 use Rattle.circuit_verify.specs.inside.Numbers.{AreNumbersOf, GrowsBy}
 use Rattle.circuit_verify.proofs.walking.walk.Given as goal
 
