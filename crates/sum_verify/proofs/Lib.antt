@@ -1,0 +1,6 @@
+pub mod FaultLemmas
+pub mod FormLemmas
+pub mod FlipLemmas
+pub mod JudgeLemmas
+pub mod NodeLemmas
+pub mod StartLemmas

@@ -1,0 +1,77 @@
+// What the forms of the lines say of a circuit.
+ghost use Rattle.std.specs.Prelude.{◌≡◌, ◌<◌, length, true, IfOk, OnOk};
+ghost use Rattle.list_facts.specs.Bits.{bit_of};
+ghost use Rattle.claim_check.specs.Settled.{settled_outputs};
+ghost use Rattle.mct_circuit.specs.Gates.{line_map};
+ghost use Rattle.circuit_verify.specs.Compared.{comparison};
+ghost use Rattle.circuit_verify.specs.Comparisons.{input_bits, start_on, wanted_on};
+ghost use Rattle.circuit_verify.specs.Verdicts.{IsVerified};
+ghost use Rattle.sum_verify.specs.inside.Forms.{AreFormsOf, HasVariables, IsFormOf};
+
+use crate::fault::Stop;
+use crate::start::start_form;
+use circuit_verify::Compared;
+use linear_forms::Form;
+use product_sums::Products;
+use std::alloc::Global;
+
+// The form that a line should have behind the gates: that of an output line is the output added to
+// what the line held.
+fn wanted_form(
+    alloc: Global,
+    products: &mut Products,
+    compared: &Compared,
+    outputs: &[Form],
+    line: u32,
+) -> Result<Form, Stop>
+    requires line { line < compared.now.circuit.lines }
+    requires outputs { AreFormsOf (comparison compared.now) products.old
+        (length compared.now.graph.outputs) outputs.now (λ bits. settled_outputs compared.now.graph
+        (input_bits (comparison compared.now) bits)) }
+    ensures same { products.new ≡ products.old }
+    ensures wanted { IfOk result (λ form. IsFormOf (comparison compared.now) products.old form
+        (λ bits. bit_of (wanted_on (comparison compared.now) bits) line)) }
+{
+    let _ = compared.variables(); // shows what is known of both
+    let start = start_form(alloc, compared, line)?;
+    let inputs = compared.inputs();
+    if line < inputs || line - inputs >= compared.outputs() {
+        return Ok(start);
+    }
+    Ok(products.sum(&start, &outputs[(line - inputs) as usize])?)
+}
+
+// Whether two forms are the same sum.
+fn is_same(left: &Form, right: &Form) -> bool
+    ensures { result ≡ true → left.now ≡ right.now }
+{
+    left.one() == right.one() && left.is_alike(right)
+}
+
+// The circuit is verified, where each line has the form that it should have.
+pub fn judge(
+    alloc: Global,
+    products: &mut Products,
+    compared: &Compared,
+    outputs: &[Form],
+    lines: &[Form],
+) -> Result<(), Stop>
+    requires variables { HasVariables (comparison compared.now) products.old }
+    requires outputs { AreFormsOf (comparison compared.now) products.old
+        (length compared.now.graph.outputs) outputs.now (λ bits. settled_outputs compared.now.graph
+        (input_bits (comparison compared.now) bits)) }
+    requires lines { AreFormsOf (comparison compared.now) products.old compared.now.circuit.lines
+        lines.now (λ bits. line_map compared.now.circuit.gates
+        (start_on (comparison compared.now) bits)) }
+    ensures { OnOk result (IsVerified (comparison compared.now)) }
+{
+    let _ = compared.variables(); // shows what is known of both
+    products.valuations();
+    for (line, form) in lines.iter().enumerate() {
+        let wanted = wanted_form(alloc, products, compared, outputs, line as u32)?;
+        if !is_same(form, &wanted) {
+            return Err(Stop::Unsettled);
+        }
+    }
+    Ok(())
+}
