@@ -5,6 +5,7 @@ use Rattle.std.proofs.lemmas.List.{length-map, take_all}
 use Rattle.claim_check.specs.Settled.{SettledView, settled_value}
 use Rattle.bit_sums.specs.Sums.{SumView}
 use Rattle.sum_graph.specs.Graphs.{HasFewBits, IsSumGraph, IsLeanOf, SumGraphView, sum_on}
+use Rattle.sum_graph.specs.Lone.{ands_beside}
 use Rattle.sum_graph.specs.declared.slot.Slot.{Slot}
 use Rattle.sum_graph.specs.inside.Walks.{IsEnded, IsWalked}
 use Rattle.sum_graph.proofs.OutputLemmas.{some_output}
@@ -45,6 +46,9 @@ lean_of s marks shared before after nodes sums w e few = record {
   values = λ input. e.values input ∙ ap (map (settled_value s input)) (take_all (length s.outputs) s.outputs (omega arith));
   few = w.few;
   products = omega (arith, e.products);
+  nodes_beside = λ lone go.
+      let all = ap (ands_beside lone) (take_all (length s.nodes) s.nodes (omega arith)) in
+      omega (arith, all, w.nodes_beside lone go);
   light = omega (arith, e.light);
   light_nodes = omega (arith, w.light);
   no_constants = w.no_constants;

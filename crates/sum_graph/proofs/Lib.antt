@@ -1,4 +1,5 @@
 pub mod LeanLemmas
+pub mod LoneLemmas
 pub mod MarkLemmas
 pub mod NodeSumLemmas
 pub mod OutputLemmas

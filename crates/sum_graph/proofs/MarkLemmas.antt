@@ -3,7 +3,7 @@ use Rattle.std.proofs.Common.{◌≡◌, ◌≢◌, ℕ, zero, suc, ◌+◌, ◌
 use Rattle.std.proofs.Common.{Some}
 use Rattle.std.proofs.Common.{refl, sym, ap, ap₂, ◌∙◌, subst, inl, inr, arith, append_assoc, append-nil, replicate}
 use Rattle.std.specs.List.{AllByRecursion, flat_map}
-use Rattle.std.proofs.lemmas.Bool.{cases_eq, cases_lt, ne_eqb}
+use Rattle.std.proofs.lemmas.Bool.{cases_eq, cases_lt, ne_eqb, true≢false}
 use Rattle.std.proofs.lemmas.List.{get_or-set_other, get_or-set_same, get_or_past, length-map, length-set, take_all, take_more}
 use Rattle.std.proofs.lemmas.List.Concat.{flat_map-append}
 use Rattle.std.proofs.lemmas.Option.{get_or_from_slice_get, none-some, same_Some, slice_get_within}
@@ -21,7 +21,8 @@ use Rattle.sum_graph.specs.declared.shared.Use.{Use}
 use Rattle.sum_graph.specs.declared.shared.Use.TheVariants.{Never, Once, Shared}
 use Rattle.sum_graph.specs.inside.Marks.{AreMarked, AreNodesMarked, AreOutputsMarked, AreWithin, IsMark, after_use, is_shared_mark, mark_at, marked}
 use Rattle.sum_graph.specs.inside.Marks.{marked_factor, marked_node, marked_output}
-use Rattle.sum_graph.specs.inside.Walks.{AreShared, factors_of, is_shared, times_in, uses_in}
+use Rattle.sum_graph.specs.Lone.{times_in, uses_in}
+use Rattle.sum_graph.specs.inside.Walks.{AreShared, factors_of, is_shared}
 use Rattle.sum_graph.proofs.UseLemmas.{times-append, times_first}
 
 -- ---- a mark
@@ -61,6 +62,52 @@ stays_shared marks k x keeps j e = elim (cases_eq j k) as (λ _. mark_at (slice_
   | inr ne ↦ let other : j ≢ k = ne in get_or-set_other marks k j x Shared other ∙ e
 ]
 
+-- a mark that becomes shared by one use more was used before
+used_twice : (times : ℕ) (mark : Use) → IsMark times mark → (mark ≡ Shared → 2 ≤ times) → after_use mark ≡ Shared → 2 ≤ times + 1
+used_twice times Never is was e = cc
+used_twice times Once is was e = omega (arith, is)
+used_twice times Shared is was e = omega (arith, was refl)
+
+-- what is no factor and was shared, with the uses so far
+abbrev AreTwice : (ℕ → Bool) → List ℕ → List Use → Type 0
+AreTwice lone uses marks = (k : ℕ) → k < length marks → lone k ≡ true → mark_at marks k ≡ Shared → 2 ≤ times_in k uses
+
+twice_marked : (lone : ℕ → Bool) (k : ℕ) (uses : List ℕ) (marks : List Use) → ((j : ℕ) → IsMark (times_in j uses) (mark_at marks j))
+    → AreTwice lone uses marks → AreTwice lone (uses ++ k ∷ []) (slice_set marks k (after_use (mark_at marks k)))
+twice_marked lone k uses marks each twice j low here shared =
+    let x = after_use (mark_at marks k) in
+    let long : length (slice_set marks k x) ≡ length marks = length-set marks k x in
+    elim (cases_eq j k) as (λ _. 2 ≤ times_in j (uses ++ k ∷ [])) [
+      | inl same ↦
+          let within : k < length marks = omega (arith, low, long, same) in
+          let at : mark_at (slice_set marks k x) j ≡ x = ap (mark_at (slice_set marks k x)) same ∙ get_or-set_same marks k x Shared within in
+          let was : mark_at marks k ≡ Shared → 2 ≤ times_in k uses = λ e. twice k within (sym (ap lone same) ∙ here) e in
+          let more : times_in j (uses ++ k ∷ []) ≡ times_in k (uses ++ k ∷ []) = ap (λ i. times_in i (uses ++ k ∷ [])) same in
+          omega (arith, more, same_times k uses, used_twice (times_in k uses) (mark_at marks k) (each k) was (sym at ∙ shared))
+      | inr ne ↦
+          let other : j ≢ k = ne in
+          omega (
+            arith,
+            other_times j k uses other,
+            twice j (omega (arith, low, long)) here (sym (get_or-set_other marks k j x Shared other) ∙ shared),
+          )
+    ]
+
+-- no factor is of the set
+twice_factor : (lone : ℕ → Bool) (k : ℕ) (uses : List ℕ) (marks : List Use) → lone k ≡ false → AreTwice lone uses marks
+    → AreTwice lone (uses ++ k ∷ []) (slice_set marks k Shared)
+twice_factor lone k uses marks none twice j low here shared =
+    elim (cases_eq j k) as (λ _. 2 ≤ times_in j (uses ++ k ∷ [])) [
+      | inl same ↦ absurd (true≢false (sym here ∙ ap lone same ∙ none))
+      | inr ne ↦
+          let other : j ≢ k = ne in
+          omega (
+            arith,
+            other_times j k uses other,
+            twice j (omega (arith, low, length-set marks k Shared)) here (sym (get_or-set_other marks k j Shared Shared other) ∙ shared),
+          )
+    ]
+
 -- ---- a base
 
 pub after_marked : (base : Base) (uses wanted : List ℕ) (marks : List Use) → AreMarked uses wanted marks
@@ -81,6 +128,7 @@ after_marked (bases.Node k) uses wanted marks are =
       ];
       factors = AllByRecursion-weaker (λ j. mark_at marks j ≡ Shared) (λ j. mark_at (slice_set marks k x) j ≡ Shared)
           (stays_shared marks k x (still_shared (mark_at marks k))) wanted are.factors;
+      only = λ lone none. twice_marked lone k uses marks are.each (are.only lone none);
     }
 
 pub after_factor : (base : Base) (uses wanted : List ℕ) (marks : List Use) → AreMarked uses wanted marks
@@ -101,6 +149,9 @@ after_factor (bases.Node k) uses wanted marks are = record {
       (AllByRecursion-weaker (λ j. mark_at marks j ≡ Shared) (λ j. mark_at (slice_set marks k Shared) j ≡ Shared)
       (stays_shared marks k Shared (λ e. refl)) wanted are.factors)
       (written_mark marks k Shared (λ m. m ≡ Shared) refl refl, tt);
+  only = λ lone none.
+      let P = λ (j : ℕ). lone j ≡ false in
+      twice_factor lone k uses marks (AllByRecursion-right P wanted (k ∷ []) none).0 (are.only lone (AllByRecursion-left P wanted (k ∷ []) none));
 }
 
 -- ---- a node, and an output
@@ -238,17 +289,26 @@ length-never : (n : ℕ) → length (replicate n Never) ≡ n
 length-never zero = refl
 length-never (suc n) = ap suc (length-never n)
 
+never_shared : (n k : ℕ) → k < n → mark_at (replicate n Never) k ≡ Shared → ⊥
+never_shared zero k low e = absurd (omega (arith, low))
+never_shared (suc n) zero low e = cc
+never_shared (suc n) (suc k) low e = never_shared n k (omega (arith, low)) e
+
 pub none_marked : (s : SettledView) (marks : List Use) → marks ≡ replicate (length s.nodes) Never → AreNodesMarked s 0 marks
 none_marked s marks e = subst (AreNodesMarked s 0) (sym e) (record {
   long = length-never (length s.nodes);
-  are = record { each = never (length s.nodes); factors = tt };
+  are = record {
+    each = never (length s.nodes);
+    factors = tt;
+    only = λ lone none k low yes shared. absurd (never_shared (length s.nodes) k (omega (arith, low, length-never (length s.nodes))) shared);
+  };
 })
 
 -- ---- which nodes are shared
 
 few_times : (times : ℕ) (mark : Use) → IsMark times mark → is_shared_mark mark ≡ false → times ≤ 1
 few_times times Never is e = omega (arith, is)
-few_times times Once is e = is
+few_times times Once is e = omega (arith, is)
 few_times times Shared is e = cc
 
 shared_mark : (marks : List Use) (k : ℕ) → is_shared (map is_shared_mark marks) k ≡ is_shared_mark (mark_at marks k)
@@ -266,6 +326,11 @@ each_factor marks (node ∷ rest) all = (
   each_factor marks rest (AllByRecursion-right (λ k. mark_at marks k ≡ Shared) (factors_of node) (flat_map factors_of rest) all),
 )
 
+not_shared : (mark : Use) → (mark ≡ Shared → ⊥) → is_shared_mark mark ≡ false
+not_shared Never not = refl
+not_shared Once not = refl
+not_shared Shared not = absurd (not refl)
+
 pub shared_by : (s : SettledView) (marks : List Use) (shared : List Bool) → AreOutputsMarked s (length s.outputs) marks → shared ≡ map is_shared_mark marks
     → AreShared s.nodes s.outputs shared
 shared_by s marks shared are e =
@@ -275,4 +340,8 @@ shared_by s marks shared are e =
       long = length-map marks is_shared_mark ∙ are.long;
       once = λ k alone. few_times (times_in k (uses_in s.nodes s.outputs)) (mark_at marks k) (marked_all.each k) (sym (shared_mark marks k) ∙ alone);
       factors = each_factor marks s.nodes marked_all.factors;
+      only = λ lone none k low here few.
+          shared_mark marks k
+          ∙ not_shared (mark_at marks k)
+          (λ twice. absurd (omega (arith, few, marked_all.only lone none k (omega (arith, low, are.long)) here twice)));
     })

@@ -18,7 +18,8 @@ use Rattle.bit_sums.specs.Sums.{SumView, weight_of}
 use Rattle.sum_graph.specs.declared.slot.Slot.{Slot}
 use Rattle.sum_graph.specs.declared.slot.Slot.TheVariants as slots
 use Rattle.sum_graph.specs.inside.Walks.{AreSlots, IsAnd, IsFactorOf, IsSlot, IsStanding, IsStandingNode, IsTaken, IsXor}
-use Rattle.sum_graph.specs.inside.Walks.{StandsFor, slot_products, slot_weight, times_in}
+use Rattle.sum_graph.specs.Lone.{times_in}
+use Rattle.sum_graph.specs.inside.Walks.{StandsFor, slot_products, slot_weight}
 use Rattle.sum_graph.proofs.SumNodeLemmas.{known_base}
 use Rattle.sum_graph.proofs.UseLemmas.{times_behind, times_first}
 

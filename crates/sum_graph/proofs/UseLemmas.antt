@@ -1,7 +1,7 @@
 -- How often nodes stand in lists of uses.
 use Rattle.std.proofs.Common.{◌≡◌, ℕ, ◌+◌, ◌≤◌, cond, List, [], ◌∷◌, ◌++◌, refl, ap, arith}
 use Rattle.std.proofs.lemmas.Bool.{eq-eqb}
-use Rattle.sum_graph.specs.inside.Walks.{times_in}
+use Rattle.sum_graph.specs.Lone.{times_in}
 
 pub times-append : (k : ℕ) (xs ys : List ℕ) → times_in k (xs ++ ys) ≡ times_in k xs + times_in k ys
 times-append k [] ys = omega arith

@@ -4,7 +4,7 @@ use Rattle.std.proofs.Common.{refl, sym, ap, ap₂, ◌∙◌, subst, inl, inr, 
 use Rattle.std.specs.Bool.{xor}
 use Rattle.std.specs.List.{AllByRecursion, flat_map, sum_by}
 use Rattle.std.proofs.lemmas.Bool.{true≢false}
-use Rattle.std.proofs.lemmas.List.{length-append, length-set, map-append, take_all, take_more, drop_all}
+use Rattle.std.proofs.lemmas.List.{length-append, length-set, length-take-le, map-append, take_all, take_more, drop_all}
 use Rattle.std.proofs.lemmas.List.Concat.{flat_map-append}
 use Rattle.std.proofs.lemmas.List.Sums.{sum_by-append, sum_by-cons}
 use Rattle.std.proofs.lemmas.Option.{get_or_from_slice_get, none-some, same_Some, slice_get-get_or, slice_get_within}
@@ -28,7 +28,9 @@ use Rattle.sum_graph.specs.declared.slot.Slot.TheVariants as slots
 use Rattle.sum_graph.specs.inside.Placing.{IsPlaced}
 use Rattle.sum_graph.specs.inside.Walks.{AreShared, AreSlots, CanOutput, CanSum, HasFactor, IsEnded, IsNodeSum, IsOutputSum, IsSlot, IsStanding, IsTaken}
 use Rattle.sum_graph.specs.inside.Walks.{IsWalked}
-use Rattle.sum_graph.specs.inside.Walks.{factors_of, is_shared, slot_products, slot_weight, uses_in}
+use Rattle.sum_graph.specs.Lone.{ands_beside, beside, uses_in}
+use Rattle.sum_graph.specs.inside.Walks.{factors_of, is_shared, products_beside, slot_products, slot_weight}
+use Rattle.sum_graph.proofs.LoneLemmas.{lone_alone, placed_beside, sum_from-append, summed_beside}
 use Rattle.sum_graph.proofs.NodeSumLemmas.{IsStep, node_step}
 use Rattle.sum_graph.proofs.PlaceLemmas.{IsAtHome, at_home, slots_still, still_known, same_value}
 use Rattle.sum_graph.proofs.TakeLemmas.{slots_less, taken_keeps, taken_products, taken_stands, taken_weight}
@@ -165,10 +167,27 @@ pushed s new shared left between slot are is = record {
   ];
 }
 
+-- what counts beside a set, of one slot more, and of one node more
+more_products : (lone : ℕ → Bool) (between : List Slot) (slot : Slot) (k : ℕ) → length between ≡ k
+    → products_beside lone (between ++ slot ∷ []) ≡ products_beside lone between + beside (lone k) (slot_products slot)
+more_products lone between slot k long =
+    let place : 0 + length between ≡ k = omega (arith, long) in
+    let at = ap (λ i. beside (lone i) (slot_products slot)) place in
+    omega (arith, at, sum_from-append (λ (i : ℕ) (x : Slot). beside (lone i) (slot_products x)) 0 between slot)
+
+more_ands : (lone : ℕ → Bool) (nodes : List Node) (k : ℕ) (node : Node) → slice_get nodes k ≡ Some node
+    → ands_beside lone (take (k + 1) nodes) ≡ ands_beside lone (take k nodes) + beside (lone k) (and_count node)
+more_ands lone nodes k node e =
+    let low = slice_get_within nodes k node e in
+    let place : 0 + length (take k nodes) ≡ k = omega (arith, length-take-le k nodes (omega (arith, low))) in
+    let at = ap (λ i. beside (lone i) (and_count node)) place in
+    let all = ap (ands_beside lone) (take_at nodes k node e) in
+    omega (arith, all, at, sum_from-append (λ (i : ℕ) (x : Node). beside (lone i) (and_count x)) 0 (take k nodes) node)
+
 pub walked_on : (s : SettledView) (shared : List Bool) (old between : List Slot) (nodes new : List SumView) (k : ℕ) (node : Node) (sum : SumView) (slot : Slot)
-    → IsWalked s shared old nodes k → slice_get s.nodes k ≡ Some node → IsNodeSum node old between sum
+    → AreShared s.nodes s.outputs shared → IsWalked s shared old nodes k → slice_get s.nodes k ≡ Some node → IsNodeSum node old between sum
     → IsPlaced (is_shared shared k) sum nodes new slot → IsWalked s shared (between ++ slot ∷ []) new (k + 1)
-walked_on s shared old between nodes new k node sum slot w e is placed =
+walked_on s shared old between nodes new k node sum slot are w e is placed =
     let left = uses_in (drop (k + 1) s.nodes) s.outputs in
     let step : IsStep s nodes shared left node old between sum =
     node_step s nodes shared left node k old between sum (known_at s.inputs k s.nodes node w.settled.nodes e)
@@ -194,6 +213,12 @@ walked_on s shared old between nodes new k node sum slot w e is placed =
         sum_by-append slot_products between (slot ∷ []),
         sum_by-cons slot_products slot [],
       );
+      nodes_beside = λ lone go.
+          let low = slice_get_within s.nodes k node e in
+          let alone = lone_alone s shared lone k are go low in
+          let made = summed_beside lone k node old between sum (go.summed k node e) is in
+          let put = placed_beside s (is_shared shared k) (lone k) sum nodes new slot alone placed home in
+          omega (arith, w.nodes_beside lone go, made, put, more_products lone between slot k long, more_ands lone s.nodes k node e);
       light = omega (arith, home.light, step.light, w.light, sum_by-append slot_weight between (slot ∷ []), sum_by-cons slot_weight slot []);
       no_constants = home.no_constants w.no_constants;
     }

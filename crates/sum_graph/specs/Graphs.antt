@@ -10,6 +10,7 @@ use Rattle.dependency_graph.specs.Graphs.{ands_in, base_bit, bits_made}
 use Rattle.claim_check.specs.Settled.{SettledView, settled_outputs}
 use Rattle.bit_sums.specs.Products.{IsProduct}
 use Rattle.bit_sums.specs.Sums.{SumView, IsSumOver, sum_value, weight_of}
+use Rattle.sum_graph.specs.Lone.{GoToOneOutput, ands_beside}
 
 -- a graph of sums: the number of inputs, the nodes and the outputs
 pub record SumGraphView : Type 0 where
@@ -82,14 +83,16 @@ abbrev pub HasNoConstant : SumView → Type 0
 HasNoConstant sum = sum.one ≡ false
 
 -- The lean graph of a settled graph: it has the inputs of that, and on every input the values of its outputs; it has no
--- more nodes, and no more products than the settled graph has ANDs. Its nodes weigh no more than 29 for each settled one,
--- and have no constant.
+-- more nodes, and no more products than the settled graph has ANDs; an AND that goes to one output alone is no product of
+-- a node. Its nodes weigh no more than 29 for each settled one, and have no constant.
 pub record IsLeanOf (s : SettledView) (l : SumGraphView) : Type 0 where
   pub inputs : l.inputs ≡ s.inputs
   pub outputs : length l.outputs ≡ length s.outputs
   pub values : (input : List Bool) → sum_outputs l input ≡ settled_outputs s input
   pub few : length l.nodes ≤ length s.nodes
   pub products : products_in l.nodes + products_in l.outputs ≤ ands_in s.nodes
+  pub nodes_beside : (lone : ℕ → Bool) → GoToOneOutput s lone
+      → products_in l.nodes ≤ ands_beside lone s.nodes
   pub light : weight_in l.nodes + weight_in l.outputs ≤ 29 * length s.nodes + 4 * length s.outputs
   pub light_nodes : weight_in l.nodes ≤ 29 * length s.nodes
   pub no_constants : AllByRecursion HasNoConstant l.nodes

@@ -1,4 +1,5 @@
 pub mod Graphs
+pub mod Lone
 pub mod Plain
 pub mod Uses
 pub mod inside

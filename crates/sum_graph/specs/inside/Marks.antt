@@ -10,7 +10,8 @@ use Rattle.dependency_graph.specs.declared.node.Sig.TheVariants.{Const, Is}
 use Rattle.claim_check.specs.Settled.{SettledView}
 use Rattle.sum_graph.specs.declared.shared.Use.{Use}
 use Rattle.sum_graph.specs.declared.shared.Use.TheVariants.{Never, Once, Shared}
-use Rattle.sum_graph.specs.inside.Walks.{factors_of, times_in, uses_in}
+use Rattle.sum_graph.specs.Lone.{times_in, uses_in}
+use Rattle.sum_graph.specs.inside.Walks.{factors_of}
 
 -- each of some numbers is below a bound
 abbrev pub AreWithin : ℕ → List ℕ → Type 0
@@ -52,13 +53,15 @@ marked_output (Is base) marks = marked base marks
 -- a mark tells how often a node is used
 abbrev pub IsMark : ℕ → Use → Type 0
 IsMark times Never = times ≡ 0
-IsMark times Once = times ≤ 1
+IsMark times Once = times ≡ 1
 IsMark times Shared = ⊤
 
--- the marks tell how often each node stands in these uses, and these factors are shared
+-- the marks tell how often each node stands in these uses; these factors are shared, and else what is used twice
 pub record AreMarked (uses wanted : List ℕ) (marks : List Use) : Type 0 where
   pub each : (k : ℕ) → IsMark (times_in k uses) (mark_at marks k)
   pub factors : AllByRecursion (λ k. mark_at marks k ≡ Shared) wanted
+  pub only : (lone : ℕ → Bool) → AllByRecursion (λ k. lone k ≡ false) wanted → (k : ℕ)
+      → k < length marks → lone k ≡ true → mark_at marks k ≡ Shared → 2 ≤ times_in k uses
 
 -- the uses by the first k nodes are marked
 pub record AreNodesMarked (s : SettledView) (k : ℕ) (marks : List Use) : Type 0 where

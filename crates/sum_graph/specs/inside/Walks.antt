@@ -1,5 +1,5 @@
 -- The walk over a settled graph: where the sum of each node stands, and which uses of nodes are still to come.
-use Rattle.std.specs.Prelude.{◌≡◌, ◌≢◌, ◌⊎◌, ℕ, ◌+◌, ◌*◌, ◌<◌, ◌≤◌, ◌==◌, Bool, true, false, not, List, [], ◌∷◌, ◌++◌, length, cond, drop, map, take}
+use Rattle.std.specs.Prelude.{◌≡◌, ◌≢◌, ◌⊎◌, ℕ, ◌+◌, ◌*◌, ◌<◌, ◌≤◌, Bool, true, false, not, List, [], ◌∷◌, length, drop, map, take}
 use Rattle.std.specs.Prelude.{Some, slice_get, slice_index_or, slice_set, ⊤}
 use Rattle.std.specs.List.{AllByRecursion, flat_map, sum_by}
 use Rattle.dependency_graph.specs.declared.node.Base.{Base}
@@ -8,24 +8,16 @@ use Rattle.dependency_graph.specs.declared.node.Node.{Node}
 use Rattle.dependency_graph.specs.declared.node.Node.TheVariants.{Not, Xor, And}
 use Rattle.dependency_graph.specs.declared.node.Sig.{Sig}
 use Rattle.dependency_graph.specs.declared.node.Sig.TheVariants.{Const, Is}
-use Rattle.dependency_graph.specs.Graphs.{and_count, base_of, nodes_among, operands}
+use Rattle.dependency_graph.specs.Graphs.{and_count, base_of, nodes_among}
 use Rattle.claim_check.specs.Settled.{IsSettled, SettledView, settled_value}
 use Rattle.bit_sums.specs.Growing.{FactorView, IsFinished, IsShort, IsSumOf, IsTimes, sum_of_factor}
 use Rattle.bit_sums.specs.Sums.{SumView, weight_of}
 use Rattle.sum_graph.specs.Graphs.{AreKnownSums, HasNoConstant, IsKnownSum, products_in, sum_on, weight_in}
+use Rattle.sum_graph.specs.Lone.{GoToOneOutput, ands_beside, beside, sum_from, times_in, uses_in}
 use Rattle.sum_graph.specs.declared.slot.Slot.{Slot}
 use Rattle.sum_graph.specs.declared.slot.Slot.TheVariants as slots
 
 -- ---- uses
-
--- how often a node stands in a list of uses
-abbrev pub times_in : ℕ → List ℕ → ℕ
-times_in k [] = 0
-times_in k (x ∷ xs) = cond (k == x) 1 0 + times_in k xs
-
--- the uses of nodes in these nodes, and then in these outputs
-abbrev pub uses_in : List Node → List Sig → List ℕ
-uses_in nodes outputs = flat_map (λ (node : Node). nodes_among (operands node)) nodes ++ nodes_among (flat_map base_of outputs)
 
 -- the operands that are factors
 abbrev pub factors_of : Node → List ℕ
@@ -37,12 +29,18 @@ factors_of (And a b) = nodes_among (a ∷ b ∷ [])
 abbrev pub is_shared : List Bool → ℕ → Bool
 is_shared shared k = slice_index_or shared k true
 
--- A node that is not shared is used once at most, and is no factor.
+-- no node of a set is a factor
+abbrev pub AreNoFactors : (ℕ → Bool) → List Node → Type 0
+AreNoFactors lone nodes = AllByRecursion (λ k. lone k ≡ false) (flat_map factors_of nodes)
+
+-- A node that is not shared is used once at most, and is no factor; and each such node is not shared.
 pub record AreShared (nodes : List Node) (outputs : List Sig) (shared : List Bool) : Type 0 where
   pub long : length shared ≡ length nodes
   pub once : (k : ℕ) → is_shared shared k ≡ false → times_in k (uses_in nodes outputs) ≤ 1
   pub factors : AllByRecursion
       (λ node. AllByRecursion (λ k. is_shared shared k ≡ true) (factors_of node)) nodes
+  pub only : (lone : ℕ → Bool) → AreNoFactors lone nodes → (k : ℕ) → k < length nodes
+      → lone k ≡ true → times_in k (uses_in nodes outputs) ≤ 1 → is_shared shared k ≡ false
 
 -- ---- slots
 
@@ -70,6 +68,10 @@ abbrev pub slot_weight : Slot → ℕ
 slot_weight slots.Moved = 0
 slot_weight (slots.Sum sum) = weight_of sum
 slot_weight (slots.Factor factor) = 0
+
+-- the products of the slots that are not of a set
+abbrev pub products_beside : (ℕ → Bool) → List Slot → ℕ
+products_beside lone some = sum_from (λ k slot. beside (lone k) (slot_products slot)) 0 some
 
 -- the slots of the nodes so far, with the uses that are still to come
 pub record AreSlots (s : SettledView) (nodes : List SumView) (shared : List Bool) (left : List ℕ)
@@ -157,7 +159,7 @@ IsNodeSum (And a b) = IsAnd a b
 -- ---- the walk
 
 -- What the walk keeps: each node so far has a slot, the nodes of the lean graph are known, and both count no more than the
--- nodes that were walked over.
+-- nodes that were walked over, also beside nodes that go to one output alone.
 pub record IsWalked (s : SettledView) (shared : List Bool) (some : List Slot) (nodes : List SumView)
     (k : ℕ) : Type 0 where
   pub settled : IsSettled s
@@ -166,6 +168,8 @@ pub record IsWalked (s : SettledView) (shared : List Bool) (some : List Slot) (n
   pub slots : AreSlots s nodes shared (uses_in (drop k s.nodes) s.outputs) some
   pub few : length nodes ≤ k
   pub products : products_in nodes + sum_by slot_products some ≤ sum_by and_count (take k s.nodes)
+  pub nodes_beside : (lone : ℕ → Bool) → GoToOneOutput s lone
+      → products_in nodes + products_beside lone some ≤ ands_beside lone (take k s.nodes)
   pub light : weight_in nodes + sum_by slot_weight some ≤ 29 * k
   pub no_constants : AllByRecursion HasNoConstant nodes
 

@@ -16,6 +16,6 @@ place-requires c = omega (arith, c.requires.walked.few, c.requires.walked.settle
 pub returns-clause-walked : goal.returns-clause-walked
 returns-clause-walked c =
     rw c.in_ok-push.ensures.items
-    (walked_on _ _ _ _ _ _ _ _ c.in_ok-sum.sum c.in_ok-slot.slot c.requires.walked c.node.ensures c.in_ok-sum.ensures
+    (walked_on _ _ _ _ _ _ _ _ c.in_ok-sum.sum c.in_ok-slot.slot c.requires.shared c.requires.walked c.node.ensures c.in_ok-sum.ensures
     (subst (λ (b : Bool). IsPlaced b c.in_ok-sum.sum c.args.self.now.nodes.keys c.place.new.nodes.keys c.in_ok-slot.slot)
     (get_or_read c.args.self.now.shared.items c.args.k _ (omega (arith, c.requires.shared.long)) c.index.ensures true) c.in_ok-slot.ensures))
