@@ -15,6 +15,7 @@ no_move f reach toggles = record {
   graph = refl;
   budget = refl;
   most = omega arith;
+  few = λ low. low;
   weight = λ light. omega arith;
   narrow = λ n. n;
 }
@@ -25,6 +26,7 @@ move-weaker f next reach more toggles larger low few m = record {
   graph = m.graph;
   budget = m.budget;
   most = omega (arith, m.most, low);
+  few = m.few;
   weight = λ light. omega (arith, m.weight light, few);
   narrow = m.narrow;
 }
@@ -36,6 +38,10 @@ move-then f mid next reach first second m n = record {
   graph = n.graph ∙ m.graph;
   budget = n.budget ∙ m.budget;
   most = omega (arith, m.most, n.most);
+  few = λ low.
+      let nodes : length mid.graph.nodes ≡ length f.graph.nodes = ap (λ (s : SumGraphView). length s.nodes) m.graph in
+      let there = n.few (omega (arith, m.few low, nodes)) in
+      omega (arith, there, nodes);
   weight = λ light. omega (arith, m.weight light, n.weight (subst IsLight (sym m.graph) light));
   narrow = λ narrow. n.narrow (m.narrow narrow);
 }

@@ -31,7 +31,7 @@ use Rattle.held_nodes.specs.Moves.{IsFinishFault, IsReadySum, finished_gates, fi
 use Rattle.held_nodes.specs.Plans.{wanted_lines}
 use Rattle.held_nodes.proofs.NarrowLemmas.{narrow_toggles}
 use Rattle.bennett_pebbling.specs.Blocks.{IsHalved}
-use Rattle.bennett_pebbling.specs.Pebbling.{HasFewProducts, HasNoLineEach, IsLight, IsPebblingFault, IsWithinBlock, extent_of, plain_weight}
+use Rattle.bennett_pebbling.specs.Pebbling.{HasFewProducts, HasLineEach, HasNoLineEach, IsLight, IsPebblingFault, IsWithinBlock, extent_of, plain_weight}
 use Rattle.bennett_pebbling.specs.inside.Changes.{CanWork, IsPlain, IsRisen, IsRiseFault}
 use Rattle.bennett_pebbling.specs.inside.Costs.{Allows, IsCovered, IsMove, block_room, counted, reach_of, room_at, size_at, toggles_at}
 use Rattle.bennett_pebbling.specs.inside.Marks.{AreNeeded}
@@ -292,13 +292,18 @@ module _ (s : SumGraphView) (b : BudgetView) (block : ℕ) (start : ForwardView)
       }
 
       -- some width and some levels always serve
-      pub plan_narrow : AreNarrow (finished_gates f)
-      plan_narrow =
-          let move =
+      some_move : IsMove start (reach_of start block (length outputs) (length start.graph.nodes) (λ k. true)) (toggles_at block (length outputs)) f
+      some_move =
           risen.thrifty.move (length outputs) (length start.graph.nodes) (λ k. true)
           (record { cuts = λ j low. some_cut start.graph (length start.graph.nodes) j low; enough = some_level block (length outputs) some })
-          (everything start 0 outputs) in
-          narrow_toggles.finished f (move.narrow (ap_narrow start s b (replicate (length s.nodes) None) begin.is))
+          (everything start 0 outputs)
+
+      pub plan_lines : HasLineEach s (planned_of f)
+      plan_lines = record { few = omega (arith, some_move.few (omega (arith, start_most)), first_is, nodes_is) }
+
+      pub plan_narrow : AreNarrow (finished_gates f)
+      plan_narrow =
+          narrow_toggles.finished f (some_move.narrow (ap_narrow start s b (replicate (length s.nodes) None) begin.is))
 
       gates_few : weight_in (finished_gates f) ≡ finished_weight f → length (finished_gates f) ≤ finished_weight f
       gates_few weighs = omega (arith, length-le-weight (finished_gates f), weighs)

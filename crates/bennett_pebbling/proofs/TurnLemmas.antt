@@ -82,6 +82,11 @@ module _ (f next : ForwardView) (k : ℕ) (t : IsToggled f k next) (forward : Is
     most =
         let e : next.most ≡ max f.most (held_count (set f.lines k t.after)) = ap (λ (g : ForwardView). g.most) t.becomes in
         omega (arith, e, few_held f k t.after allowed forward allows);
+    few = λ held.
+        let n = length f.graph.nodes in
+        let e : next.most ≡ max f.most (held_count (set f.lines k t.after)) = ap (λ (g : ForwardView). g.most) t.becomes in
+        let all = few_held f k t.after (λ j. true) forward (record { held = record { held = λ j is. refl }; turning = λ is. refl }) in
+        omega (arith, e, all, counted-most (λ j. true) n, held);
     weight = λ light.
         let e = ap (λ (g : ForwardView). weight_in g.gates) t.becomes in
         omega (arith, e, whole_weight light);

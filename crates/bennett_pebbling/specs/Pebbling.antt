@@ -51,6 +51,10 @@ abbrev pub IsWithinBlock : SumGraphView → ℕ → PlannedView → Type 0
 IsWithinBlock s block p =
     AreWithinBlock (extent_of s) block 0 p.circuit.lines (length p.circuit.gates)
 
+-- the plan has at most a line for each input, output and node
+pub record HasLineEach (s : SumGraphView) (p : PlannedView) : Type 0 where
+  pub few : p.circuit.lines ≤ first_work s + length s.nodes
+
 -- where one block has all nodes, the plan has at most two flips under two lines for each product of a node, and one for
 -- each of an output
 pub record HasFewProducts (s : SumGraphView) (block : ℕ) (p : PlannedView) : Type 0 where

@@ -1,6 +1,7 @@
 // The pebbling plan of a graph.
 ghost use Rattle.std.specs.Prelude.{IfOk, IfErr, ◌≤◌};
-ghost use Rattle.bennett_pebbling.specs.Pebbling.{HasFewProducts, IsPebblingFault, IsWithinBlock};
+ghost use Rattle.bennett_pebbling.specs.Pebbling.{HasFewProducts, HasLineEach, IsPebblingFault};
+ghost use Rattle.bennett_pebbling.specs.Pebbling.{IsWithinBlock};
 ghost use Rattle.circuit_plans.specs.declared.roles.Start.TheVariants.{Any};
 ghost use Rattle.held_nodes.specs.Plans.{IsNarrowPlan};
 
@@ -15,7 +16,8 @@ use sum_graph::SumGraph;
 /// what the second half of the nodes needs of the first, then the outputs in the second half, and
 /// then cleans the first half of what is no output; each half goes in the same way, and a block is
 /// computed node by node. The circuit takes each input and zeros to that input, the outputs, and
-/// zeros. Where one block has all nodes, each node is toggled at most twice.
+/// zeros. It has at most a line for each input, output and node. Where one block has all nodes, each
+/// node is toggled at most twice.
 ///
 /// # Errors
 ///
@@ -33,6 +35,7 @@ pub fn plan(
     requires { 1 ≤ block }
     ensures plan { IfOk result (IsNarrowPlan Any graph.now budget.now) }
     ensures few { IfOk result (IsWithinBlock graph.now block) }
+    ensures lines { IfOk result (HasLineEach graph.now) }
     ensures products { IfOk result (HasFewProducts graph.now block) }
     ensures refused { IfErr result (IsPebblingFault graph.now block budget.now) }
 {

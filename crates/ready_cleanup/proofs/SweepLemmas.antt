@@ -13,17 +13,22 @@ use Rattle.dependency_graph.specs.Graphs.{IsKnownBase}
 use Rattle.circuit_plans.specs.declared.plan.PlanFault.{PlanFault}
 use Rattle.circuit_plans.specs.declared.plan.PlanFault.TheVariants.{Lines, Gates, Memory}
 use Rattle.circuit_plans.specs.Plans.{BudgetView}
-use Rattle.mct_circuit.specs.Gates.{AreNarrow}
-use Rattle.sum_graph.specs.Graphs.{IsSumGraph, SumGraphView}
+use Rattle.mct_circuit.specs.Gates.{AreNarrow, GateView}
+use Rattle.mct_circuit.specs.Sizes.{weight_of}
+use Rattle.mct_circuit.proofs.WeightLemmas.{length-le-weight}
+use Rattle.sum_graph.specs.Graphs.{IsSumGraph, SumGraphView, products_in}
 use Rattle.sum_graph.specs.Uses.{sum_last_use}
 use Rattle.sum_toggles.specs.Toggles.{toggle_weight}
+use Rattle.sum_toggles.proofs.CountLemmas.{ccx_of}
 use Rattle.held_nodes.specs.Held.{ForwardView, IsForward, first_work, held_count, is_held, is_ready, work_lines}
-use Rattle.held_nodes.specs.Moves.{IsFinishFault, IsReadyNode, IsReadySum, IsToggled, IsToggleFault, finished_gates, nothing_held, weight_in}
+use Rattle.held_nodes.specs.Moves.{IsFinishFault, IsReadyNode, IsReadySum, IsToggled, IsToggleFault, finished_gates, finished_weight}
+use Rattle.held_nodes.specs.Moves.{nothing_held, planned_of, weight_in}
 use Rattle.held_nodes.specs.Plans.{wanted_lines}
-use Rattle.held_nodes.specs.Prices.{price_at, prices}
+use Rattle.held_nodes.specs.Prices.{IsPrice, price_at, prices}
+use Rattle.held_nodes.proofs.CountLemmas.{ccx_finished}
 use Rattle.held_nodes.proofs.NarrowLemmas.{narrow_toggles}
 use Rattle.held_nodes.proofs.PlaceLemmas.{known_at, known_bases, ready_bases}
-use Rattle.held_nodes.proofs.PriceLemmas.{price_node, prices-longer, prices_all, weight_price}
+use Rattle.held_nodes.proofs.PriceLemmas.{ccx_price, price_node, prices-longer, prices_all, weight_price}
 use Rattle.bennett_pebbling.specs.inside.Changes.{IsTurned}
 use Rattle.bennett_pebbling.specs.inside.Costs.{counted}
 use Rattle.bennett_pebbling.proofs.CountLemmas.{counted-below, counted-held, counted-most}
@@ -32,62 +37,63 @@ use Rattle.bennett_pebbling.proofs.NeedLemmas.{rests_below}
 use Rattle.bennett_pebbling.proofs.OutputLemmas.{ready_outputs}
 use Rattle.bennett_pebbling.proofs.ReadyLemmas.{is_ready as node_ready}
 use Rattle.bennett_pebbling.proofs.TurnLemmas.{turned_over}
-use Rattle.ready_cleanup.specs.Ready.{IsReadyFault}
+use Rattle.bennett_pebbling.specs.Pebbling.{HasLineEach}
+use Rattle.ready_cleanup.specs.Ready.{IsReadyFault, IsWithinReady}
 use Rattle.ready_cleanup.specs.inside.Sweeps.{AreLastUses, IsCleaned, IsCleaningFault, IsLastUse, IsSwept, IsUndone, all_paid, paid}
 
 -- ---- what is paid
 
-paid_same : (s : SumGraphView) (lines after : List (Option ℕ)) (n : ℕ) → ((i : ℕ) → i < n → is_held after i ≡ is_held lines i)
-    → all_paid s after n ≡ all_paid s lines n
-paid_same s lines after zero same = refl
-paid_same s lines after (suc n) same =
-    let here = ap (paid (price_at toggle_weight s n)) (same n (omega arith)) in
-    omega (arith, here, paid_same s lines after n (λ i low. same i (omega (arith, low))))
+paid_same : (price : SumView → ℕ) (s : SumGraphView) (lines after : List (Option ℕ)) (n : ℕ) → ((i : ℕ) → i < n → is_held after i ≡ is_held lines i)
+    → all_paid price s after n ≡ all_paid price s lines n
+paid_same price s lines after zero same = refl
+paid_same price s lines after (suc n) same =
+    let here = ap (paid (price_at price s n)) (same n (omega arith)) in
+    omega (arith, here, paid_same price s lines after n (λ i low. same i (omega (arith, low))))
 
 -- a node that is no longer held
-paid_freed : (s : SumGraphView) (lines after : List (Option ℕ)) (n k : ℕ) → k < n → is_held lines k ≡ true → is_held after k ≡ false
-    → ((i : ℕ) → i ≢ k → is_held after i ≡ is_held lines i) → all_paid s lines n + price_at toggle_weight s k ≤ all_paid s after n
-paid_freed s lines after zero k low held gone same = absurd (omega (arith, low))
-paid_freed s lines after (suc n) k low held gone same =
-    elim (cases_eq k n) as (λ _. all_paid s lines (suc n) + price_at toggle_weight s k ≤ all_paid s after (suc n)) [
+paid_freed : (price : SumView → ℕ) (s : SumGraphView) (lines after : List (Option ℕ)) (n k : ℕ) → k < n → is_held lines k ≡ true → is_held after k ≡ false
+    → ((i : ℕ) → i ≢ k → is_held after i ≡ is_held lines i) → all_paid price s lines n + price_at price s k ≤ all_paid price s after n
+paid_freed price s lines after zero k low held gone same = absurd (omega (arith, low))
+paid_freed price s lines after (suc n) k low held gone same =
+    elim (cases_eq k n) as (λ _. all_paid price s lines (suc n) + price_at price s k ≤ all_paid price s after (suc n)) [
       | inl e ↦
-          let w = price_at toggle_weight s n in
-          let weight : price_at toggle_weight s k ≡ w = ap (price_at toggle_weight s) e in
+          let w = price_at price s n in
+          let weight : price_at price s k ≡ w = ap (price_at price s) e in
           let was : paid w (is_held lines n) ≡ w = ap (paid w) (ap (is_held lines) (sym e) ∙ held) in
           let is : paid w (is_held after n) ≡ 2 * w = ap (paid w) (ap (is_held after) (sym e) ∙ gone) in
-          let rest = paid_same s lines after n (λ i less. same i (λ eq. absurd (omega (arith, less, eq, e)))) in
+          let rest = paid_same price s lines after n (λ i less. same i (λ eq. absurd (omega (arith, less, eq, e)))) in
           omega (arith, weight, was, is, rest)
       | inr ne ↦
           let other : k ≢ n = ne in
-          let here = ap (paid (price_at toggle_weight s n)) (same n (λ eq. other (sym eq))) in
-          omega (arith, here, paid_freed s lines after n k (omega (arith, low, other)) held gone same)
+          let here = ap (paid (price_at price s n)) (same n (λ eq. other (sym eq))) in
+          omega (arith, here, paid_freed price s lines after n k (omega (arith, low, other)) held gone same)
     ]
 
 paid_most : (weight : ℕ) (held : Bool) → paid weight held ≤ 2 * weight
 paid_most weight true = omega arith
 paid_most weight false = omega arith
 
-all_most : (s : SumGraphView) (lines : List (Option ℕ)) (n : ℕ) → all_paid s lines n ≤ 2 * prices toggle_weight s 0 n
-all_most s lines zero = omega arith
-all_most s lines (suc n) =
-    let same : price_at toggle_weight s (0 + n) ≡ price_at toggle_weight s n = ap (price_at toggle_weight s) (zero-add n) in
-    omega (arith, same, all_most s lines n, paid_most (price_at toggle_weight s n) (is_held lines n))
+all_most : (price : SumView → ℕ) (s : SumGraphView) (lines : List (Option ℕ)) (n : ℕ) → all_paid price s lines n ≤ 2 * prices price s 0 n
+all_most price s lines zero = omega arith
+all_most price s lines (suc n) =
+    let same : price_at price s (0 + n) ≡ price_at price s n = ap (price_at price s) (zero-add n) in
+    omega (arith, same, all_most price s lines n, paid_most (price_at price s n) (is_held lines n))
 
 -- a node that is held can be paid for once more
-held_most : (s : SumGraphView) (lines : List (Option ℕ)) (n k : ℕ) → k < n → is_held lines k ≡ true
-    → all_paid s lines n + price_at toggle_weight s k ≤ 2 * prices toggle_weight s 0 n
-held_most s lines zero k low held = absurd (omega (arith, low))
-held_most s lines (suc n) k low held =
-    let w = price_at toggle_weight s n in
-    let same : price_at toggle_weight s (0 + n) ≡ w = ap (price_at toggle_weight s) (zero-add n) in
-    elim (cases_eq k n) as (λ _. all_paid s lines (suc n) + price_at toggle_weight s k ≤ 2 * prices toggle_weight s 0 (suc n)) [
+held_most : (price : SumView → ℕ) (s : SumGraphView) (lines : List (Option ℕ)) (n k : ℕ) → k < n → is_held lines k ≡ true
+    → all_paid price s lines n + price_at price s k ≤ 2 * prices price s 0 n
+held_most price s lines zero k low held = absurd (omega (arith, low))
+held_most price s lines (suc n) k low held =
+    let w = price_at price s n in
+    let same : price_at price s (0 + n) ≡ w = ap (price_at price s) (zero-add n) in
+    elim (cases_eq k n) as (λ _. all_paid price s lines (suc n) + price_at price s k ≤ 2 * prices price s 0 (suc n)) [
       | inl e ↦
-          let weight : price_at toggle_weight s k ≡ w = ap (price_at toggle_weight s) e in
+          let weight : price_at price s k ≡ w = ap (price_at price s) e in
           let was : paid w (is_held lines n) ≡ w = ap (paid w) (ap (is_held lines) (sym e) ∙ held) in
-          omega (arith, weight, was, same, all_most s lines n)
+          omega (arith, weight, was, same, all_most price s lines n)
       | inr ne ↦
           let other : k ≢ n = ne in
-          omega (arith, same, held_most s lines n k (omega (arith, low, other)) held, paid_most w (is_held lines n))
+          omega (arith, same, held_most price s lines n k (omega (arith, low, other)) held, paid_most w (is_held lines n))
     ]
 
 -- ---- between two nodes
@@ -132,7 +138,7 @@ module _ (s : SumGraphView) (b : BudgetView) (count : ℕ) (f : ForwardView) (is
   -- ---- refused
 
   -- a toggle of a node that can still be paid for
-  refused : (k : ℕ) (e : PlanFault) → k < length s.nodes → all_paid s f.lines count + price_at toggle_weight s k ≤ 2 * sum_by toggle_weight s.nodes
+  refused : (k : ℕ) (e : PlanFault) → k < length s.nodes → all_paid toggle_weight s f.lines count + price_at toggle_weight s k ≤ 2 * sum_by toggle_weight s.nodes
       → IsToggleFault f k e → IsReadyFault s b e
   refused k (Lines need) low paid fault =
       let n = length f.graph.nodes in
@@ -145,27 +151,27 @@ module _ (s : SumGraphView) (b : BudgetView) (count : ℕ) (f : ForwardView) (is
   refused k Gates low paid fault =
       let weight : price_at toggle_weight s k ≡ toggle_weight fault.1.node =
       ap (λ (x : SumGraphView). price_at toggle_weight x k) (sym is.graph) ∙ price_node toggle_weight f.graph k fault.1.node fault.1.is in
-      omega (arith, fault.1.heavy, gates_are, is.weight, weight, paid)
+      omega (arith, fault.1.heavy, gates_are, is.costs weight_of toggle_weight weight_price, weight, paid)
   refused k Memory low paid fault = swept_room
 
   pub next_refused : (e : PlanFault) → count < length s.nodes → IsToggleFault f count e → IsReadyFault s b e
   next_refused e low fault =
       let next : price_at toggle_weight s (0 + count) ≡ price_at toggle_weight s count = ap (price_at toggle_weight s) (zero-add count) in
       let front = prices-longer toggle_weight s 0 (suc count) (length s.nodes) low in
-      refused count e low (omega (arith, next, front, all_most s f.lines count, prices_all toggle_weight s)) fault
+      refused count e low (omega (arith, next, front, all_most toggle_weight s f.lines count, prices_all toggle_weight s)) fault
 
   pub cleaning_refused : (k : ℕ) (e : PlanFault) → k < count → count ≤ length s.nodes → IsCleaningFault f k e → IsReadyFault s b e
   cleaning_refused k e low inside fault =
       let front = prices-longer toggle_weight s 0 count (length s.nodes) inside in
       refused k e (omega (arith, low, inside))
-      (omega (arith, front, held_most s f.lines count k low fault.held, prices_all toggle_weight s)) fault.fault
+      (omega (arith, front, held_most toggle_weight s f.lines count k low fault.held, prices_all toggle_weight s)) fault.fault
 
   pub finish_refused : (e : PlanFault) → count ≤ length s.nodes → IsFinishFault f e → IsReadyFault s b e
   finish_refused (Lines need) inside fault = absurd fault
   finish_refused Gates inside fault =
       let front = prices-longer toggle_weight s 0 count (length s.nodes) inside in
       let outputs = ap (λ (x : SumGraphView). sum_by toggle_weight x.outputs) is.graph in
-      omega (arith, fault, gates_are, outputs, is.weight, all_most s f.lines count, front, prices_all toggle_weight s)
+      omega (arith, fault, gates_are, outputs, is.costs weight_of toggle_weight weight_price, all_most toggle_weight s f.lines count, front, prices_all toggle_weight s)
   finish_refused Memory inside fault = swept_room
 
   -- ---- a toggle
@@ -174,11 +180,17 @@ module _ (s : SumGraphView) (b : BudgetView) (count : ℕ) (f : ForwardView) (is
     turned : IsTurned f k true next
     turned = turned_over f next k t is.forward (omega (arith, low, nodes_are))
 
-    heavier : weight_in next.gates ≤ weight_in f.gates + price_at toggle_weight s k
-    heavier =
-        let weight : price_at toggle_weight s k ≡ toggle_weight t.node =
-        ap (λ (x : SumGraphView). price_at toggle_weight x k) (sym is.graph) ∙ price_node toggle_weight f.graph k t.node t.is in
-        omega (arith, weight, weight_price.toggled f next k t)
+    dearer : (measure : GateView → ℕ) (price : SumView → ℕ) → IsPrice measure price
+        → sum_by measure next.gates ≤ sum_by measure f.gates + price_at price s k
+    dearer measure price p =
+        let here : price_at price s k ≡ price t.node =
+        ap (λ (x : SumGraphView). price_at price x k) (sym is.graph) ∙ price_node price f.graph k t.node t.is in
+        omega (arith, here, p.toggled f next k t)
+
+    still_few : next.most ≤ length s.nodes
+    still_few =
+        let move = turned.move (λ j. true) (record { held = record { held = λ j h. refl }; turning = λ h. refl }) in
+        omega (arith, move.few (omega (arith, is.few, nodes_are)), nodes_are)
 
     next_graph : next.graph ≡ s
     next_graph = ap (λ (g : ForwardView). g.graph) t.becomes ∙ is.graph
@@ -201,13 +213,14 @@ module _ (s : SumGraphView) (b : BudgetView) (count : ℕ) (f : ForwardView) (is
           | inr ne ↦ let other : k ≢ count = ne in turn.others k ne ∙ is.needed k (omega (arith, less, other)) (omega (arith, later))
         ];
         narrow = narrow_toggles.toggled f next count t is.narrow;
-        weight =
-            let w = price_at toggle_weight s count in
-            let same = paid_same s f.lines next.lines count (λ i less. turn.others i (λ e. absurd (omega (arith, less, e)))) in
+        few = still_few count next keeps t low;
+        costs = λ measure price p.
+            let w = price_at price s count in
+            let same = paid_same price s f.lines next.lines count (λ i less. turn.others i (λ e. absurd (omega (arith, less, e)))) in
             let here : paid w (is_held next.lines count) ≡ w = ap (paid w) held in
             let one : suc count ≡ count + 1 = omega arith in
-            let all : all_paid s next.lines (suc count) ≡ all_paid s next.lines (count + 1) = ap (all_paid s next.lines) one in
-            omega (arith, heavier count next keeps t low, is.weight, same, here, all);
+            let all : all_paid price s next.lines (suc count) ≡ all_paid price s next.lines (count + 1) = ap (all_paid price s next.lines) one in
+            omega (arith, dearer count next keeps t low measure price p, is.costs measure price p, same, here, all);
       }
 
   undone : (k : ℕ) (next : ForwardView) → k < count → count ≤ length s.nodes → sum_last_use s k < count → IsForward next → IsUndone f k next
@@ -226,11 +239,12 @@ module _ (s : SumGraphView) (b : BudgetView) (count : ℕ) (f : ForwardView) (is
           | inr ne ↦ turn.others i ne ∙ is.needed i before later
         ];
         narrow = narrow_toggles.toggled f next k u.toggled is.narrow;
-        weight = omega (
+        few = still_few k next keeps u.toggled less;
+        costs = λ measure price p. omega (
           arith,
-          heavier k next keeps u.toggled less,
-          is.weight,
-          paid_freed s f.lines next.lines count k low u.held gone (λ i ne. turn.others i ne),
+          dearer k next keeps u.toggled less measure price p,
+          is.costs measure price p,
+          paid_freed price s f.lines next.lines count k low u.held gone (λ i ne. turn.others i ne),
         );
       }
 
@@ -257,8 +271,9 @@ begun_here s b lines none keeps = record {
   budget = refl;
   behind = λ k late. none k;
   needed = λ k low later. absurd (omega (arith, low));
+  few = omega arith;
   narrow = tt;
-  weight = omega arith;
+  costs = λ measure price p. omega arith;
 }
 
 pub begun : (s : SumGraphView) (b c : BudgetView) (f : ForwardView) → f ≡ nothing_held s b (replicate (length s.nodes) None) → IsForward f
@@ -272,6 +287,27 @@ begun s b c f is keeps same =
 
 pub finished_narrow : (s : SumGraphView) (b : BudgetView) (count : ℕ) (f : ForwardView) → IsSwept s b count f → AreNarrow (finished_gates f)
 finished_narrow s b count f is = narrow_toggles.finished f is.narrow
+
+pub finished_lines : (s : SumGraphView) (b : BudgetView) (count : ℕ) (f : ForwardView) → IsSwept s b count f → HasLineEach s (planned_of f)
+finished_lines s b count f is =
+    let first : first_work f.graph ≡ first_work s = ap first_work is.graph in
+    record { few = omega (arith, first, is.few) }
+
+-- what all toggles cost at most
+paid_for : (s : SumGraphView) (b : BudgetView) (f : ForwardView) → IsSwept s b (length s.nodes) f → (measure : GateView → ℕ) (price : SumView → ℕ)
+    → IsPrice measure price → sum_by measure f.gates ≤ 2 * sum_by price s.nodes
+paid_for s b f is measure price p =
+    omega (arith, is.costs measure price p, all_most price s f.lines (length s.nodes), prices_all price s)
+
+pub finished_within : (s : SumGraphView) (b : BudgetView) (f : ForwardView) → IsSwept s b (length s.nodes) f
+    → weight_in (finished_gates f) ≡ finished_weight f → IsWithinReady s (planned_of f)
+finished_within s b f is weighs =
+    let weight = ap (λ (x : SumGraphView). sum_by toggle_weight x.outputs) is.graph in
+    let outputs = ap (λ (x : SumGraphView). products_in x.outputs) is.graph in
+    record {
+      products = omega (arith, ccx_finished f, paid_for s b f is ccx_of (λ (x : SumView). length x.products) ccx_price, outputs);
+      gates = omega (arith, length-le-weight (finished_gates f), weighs, weight, paid_for s b f is weight_of toggle_weight weight_price);
+    }
 
 -- ---- the bases of a node
 

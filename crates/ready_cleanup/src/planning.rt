@@ -2,7 +2,8 @@
 ghost use Rattle.std.specs.Prelude.{◌≡◌, ◌+◌, ◌<◌, length, IfOk, IfErr};
 ghost use Rattle.circuit_plans.specs.declared.roles.Start.TheVariants.{Any};
 ghost use Rattle.held_nodes.specs.Plans.{IsNarrowPlan};
-ghost use Rattle.ready_cleanup.specs.Ready.{IsReadyFault};
+ghost use Rattle.bennett_pebbling.specs.Pebbling.{HasLineEach};
+ghost use Rattle.ready_cleanup.specs.Ready.{IsReadyFault, IsWithinReady};
 ghost use Rattle.ready_cleanup.specs.inside.Sweeps.{IsSwept};
 
 use crate::cleaning::clean_used;
@@ -15,7 +16,8 @@ use sum_graph::SumGraph;
 /// onto the least free work line; then each node that was used for the last time is cleaned, the
 /// later one first, where all that it is made of are inputs or still stand on work lines, and else
 /// stays up to the end. The circuit takes each input and zeros to that input, the outputs, and
-/// zeros. In time near linear in the nodes and in the terms of their sums.
+/// zeros. It has at most a line for each input, output and node, and four toggles of each node and
+/// one of each output. In time near linear in the nodes and in the terms of their sums.
 ///
 /// # Errors
 ///
@@ -25,6 +27,8 @@ use sum_graph::SumGraph;
 /// and one line more than the budget otherwise.
 pub fn plan(alloc: Global, graph: &SumGraph, budget: &Budget) -> Result<Planned, PlanFault>
     ensures plan { IfOk result (IsNarrowPlan Any graph.now budget.now) }
+    ensures lines { IfOk result (HasLineEach graph.now) }
+    ensures few { IfOk result (IsWithinReady graph.now) }
     ensures refused { IfErr result (IsReadyFault graph.now budget.now) }
 {
     let forward = Forward::new(alloc, graph, budget)?;

@@ -37,11 +37,12 @@ IsHeavy f weight Memory = ⊤
 
 -- ---- moves
 
--- at most so many toggles, by which never more nodes are held than the reach, or than were before
+-- at most so many toggles, by which never more nodes are held than the reach, or than were before, or than there are
 pub record IsMove (f : ForwardView) (reach toggles : ℕ) (next : ForwardView) : Type 0 where
   pub graph : next.graph ≡ f.graph
   pub budget : next.budget ≡ f.budget
   pub most : next.most ≤ max f.most reach
+  pub few : f.most ≤ length f.graph.nodes → next.most ≤ length f.graph.nodes
   pub weight : IsLight f.graph → weight_in next.gates ≤ weight_in f.gates + 2 * toggles
   pub narrow : AreNarrow f.gates → AreNarrow next.gates
 

@@ -1,15 +1,15 @@
 -- What is held and paid for while the nodes are gone through in order.
-use Rattle.std.specs.Prelude.{◌≡◌, ℕ, zero, suc, ◌+◌, ◌*◌, ◌<◌, ◌≤◌, ◌⊎◌, Bool, true, false, List, Option}
+use Rattle.std.specs.Prelude.{◌≡◌, ℕ, zero, suc, ◌+◌, ◌*◌, ◌<◌, ◌≤◌, ◌⊎◌, Bool, true, false, List, Option, length, sum_by}
 use Rattle.std.specs.List.{AllByRecursion}
 use Rattle.circuit_plans.specs.declared.plan.PlanFault.{PlanFault}
 use Rattle.circuit_plans.specs.Plans.{BudgetView}
 use Rattle.held_nodes.specs.Held.{ForwardView, IsForward, is_held}
-use Rattle.held_nodes.specs.Moves.{IsToggled, IsToggleFault, weight_in}
-use Rattle.held_nodes.specs.Prices.{price_at}
-use Rattle.mct_circuit.specs.Gates.{AreNarrow}
+use Rattle.bit_sums.specs.Sums.{SumView}
+use Rattle.held_nodes.specs.Moves.{IsToggled, IsToggleFault}
+use Rattle.held_nodes.specs.Prices.{IsPrice, price_at}
+use Rattle.mct_circuit.specs.Gates.{AreNarrow, GateView}
 use Rattle.sum_graph.specs.Graphs.{SumGraphView}
 use Rattle.sum_graph.specs.Uses.{sum_last_use}
-use Rattle.sum_toggles.specs.Toggles.{toggle_weight}
 
 -- ---- what is paid for
 
@@ -18,23 +18,26 @@ abbrev pub paid : ℕ → Bool → ℕ
 paid weight true = weight
 paid weight false = 2 * weight
 
--- what the toggles of the first nodes weigh at most
-abbrev pub all_paid : SumGraphView → List (Option ℕ) → ℕ → ℕ
-all_paid s lines zero = 0
-all_paid s lines (suc k) = all_paid s lines k + paid (price_at toggle_weight s k) (is_held lines k)
+-- what is paid at most for the toggles of the first nodes
+abbrev pub all_paid : (SumView → ℕ) → SumGraphView → List (Option ℕ) → ℕ → ℕ
+all_paid price s lines zero = 0
+all_paid price s lines (suc k) =
+    all_paid price s lines k + paid (price_at price s k) (is_held lines k)
 
 -- ---- between two nodes
 
 -- The first `count` nodes were gone through: those that are used later are held, and no node behind them is. All gates
--- are toggles, at most two of each of these nodes.
+-- are toggles, at most two of each of these nodes; never more nodes were held than there are.
 pub record IsSwept (s : SumGraphView) (b : BudgetView) (count : ℕ) (f : ForwardView) : Type 0 where
   pub forward : IsForward f
   pub graph : f.graph ≡ s
   pub budget : f.budget ≡ b
   pub behind : (k : ℕ) → count ≤ k → is_held f.lines k ≡ false
   pub needed : (k : ℕ) → k < count → count ≤ sum_last_use s k → is_held f.lines k ≡ true
+  pub few : f.most ≤ length s.nodes
   pub narrow : AreNarrow f.gates
-  pub weight : weight_in f.gates ≤ all_paid s f.lines count
+  pub costs : (measure : GateView → ℕ) (price : SumView → ℕ) → IsPrice measure price
+      → sum_by measure f.gates ≤ all_paid price s f.lines count
 
 -- ---- a cleaning
 

@@ -2,9 +2,9 @@ use Rattle.std.proofs.Common.{rules}
 use Rattle.std.proofs.lemmas.Result.{IfErr-weaker}
 use Rattle.held_nodes.specs.Moves.{IsFinishFault}
 use Rattle.held_nodes.proofs.NarrowLemmas.{narrow_plan}
-use Rattle.bennett_pebbling.specs.Pebbling.{HasFewProducts, IsPebblingFault, IsWithinBlock}
+use Rattle.bennett_pebbling.specs.Pebbling.{HasFewProducts, HasLineEach, IsPebblingFault, IsWithinBlock}
 use Rattle.bennett_pebbling.proofs.PlanLemmas.{IsBegun, begun, begun_can, finish_refused, of_finished}
-use Rattle.bennett_pebbling.proofs.PlanLemmas.{plan_few, plan_narrow, plan_products, plan_ready, rise_refused}
+use Rattle.bennett_pebbling.proofs.PlanLemmas.{plan_few, plan_lines, plan_narrow, plan_products, plan_ready, rise_refused}
 use Rattle.bennett_pebbling.proofs.planning.plan.Goals as goal
 use Rattle.revc_base.proofs.ResultLemmas.{passes_on}
 use Rattle.bennett_pebbling.proofs.planning.plan.Goals.{After-deref}
@@ -44,6 +44,8 @@ returns c =
           (search rules) (search rules) (search rules);
       few = of_finished c.finish.result f (IsWithinBlock s c.args.block) c.finish.ensures.ok c.finish.ensures.weighs
           (plan_few s b c.args.block start outputs c.requires is f risen);
+      lines = of_finished c.finish.result f (HasLineEach s) c.finish.ensures.ok c.finish.ensures.weighs
+          (λ weighs. plan_lines s b c.args.block start outputs c.requires is f risen);
       products = of_finished c.finish.result f (HasFewProducts s c.args.block) c.finish.ensures.ok c.finish.ensures.weighs
           (λ weighs. plan_products s b c.args.block start outputs c.requires is f risen);
       refused = IfErr-weaker c.finish.result (IsFinishFault f) (IsPebblingFault s c.args.block b)
