@@ -15,7 +15,7 @@ use Rattle.dependency_graph.specs.Graphs.{ands_in}
 use Rattle.eager_cleanup.specs.Eager.{ports_of}
 use Rattle.held_nodes.specs.Plans.{HasPortLines}
 use Rattle.plan_choice.specs.Choices.{IsChoiceFault, IsCompact, IsLaidFor, IsLean, LeanFits}
-use Rattle.plan_choice.specs.Lean.{HasNoMoreLines, IsAsCompact, area, toffoli}
+use Rattle.plan_choice.specs.Lean.{HasNoMoreLines, IsAsCompact, IsThrifty, area, toffoli}
 use Rattle.plan_choice.specs.inside.Tried.{IsBestSoFar, IsCompactSearch, IsFoundSoFar, IsLaidNarrow, is_smaller, smaller_of}
 
 -- ---- the order of plans
@@ -123,13 +123,17 @@ next s b tried found h is = record { lean = h.lean; is_lean = h.is_lean; refused
 
 -- ---- what is laid
 
-few_toffoli : (s : SettledView) (b : BudgetView) (laid : LaidView) (lean : Result LaidView PlanFault) → IfOk lean (IsLean s b)
+-- a plan of no more Toffoli gates
+as_thrifty : (s : SettledView) (p q : LaidView) → toffoli p ≤ toffoli q → IsThrifty s q → IsThrifty s p
+as_thrifty s p q le is = record { all = omega (arith, le, is.all); lone = λ lone go. omega (arith, le, is.lone lone go) }
+
+thrifty : (s : SettledView) (b : BudgetView) (laid : LaidView) (lean : Result LaidView PlanFault) → IfOk lean (IsLean s b)
     → IfErr lean (IsChoiceFault Lean s b) → lean ≢ Err Memory → IfOk lean (IsAsCompact laid) → (m : Measures) → IsWithin s m → LeanFits b m
-    → toffoli laid ≤ 2 * ands_in s.nodes
-few_toffoli s b laid (Ok l) is refused enough best m within fit = omega (arith, is.few m within fit, fewer_toffoli laid l best)
-few_toffoli s b laid (Err (Lines need)) is refused enough best m within fit = absurd (refused.0.no_row m within fit)
-few_toffoli s b laid (Err Gates) is refused enough best m within fit = absurd (refused.no_row m within fit)
-few_toffoli s b laid (Err Memory) is refused enough best m within fit = absurd (enough refl)
+    → IsThrifty s laid
+thrifty s b laid (Ok l) is refused enough best m within fit = as_thrifty s laid l (fewer_toffoli laid l best) (is.few m within fit)
+thrifty s b laid (Err (Lines need)) is refused enough best m within fit = absurd (refused.0.no_row m within fit)
+thrifty s b laid (Err Gates) is refused enough best m within fit = absurd (refused.no_row m within fit)
+thrifty s b laid (Err Memory) is refused enough best m within fit = absurd (enough refl)
 
 pub found_fits : (s : SettledView) (b : BudgetView) (tried : Result LaidView PlanFault) → IsCompactSearch s b tried → IfOk tried (IsLaidFor Zero s b)
 found_fits s b (Ok laid) h = h.so_far.plan.for_graph
@@ -143,7 +147,7 @@ found_compact s b (Ok laid) h = record {
   enough = h.so_far.enough;
   best = h.so_far.best;
   narrow = h.so_far.plan.narrow;
-  few = few_toffoli s b laid h.lean h.is_lean h.refused h.so_far.enough h.so_far.best;
+  few = thrifty s b laid h.lean h.is_lean h.refused h.so_far.enough h.so_far.best;
 }
 found_compact s b (Err e) h = tt
 

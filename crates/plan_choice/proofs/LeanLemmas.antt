@@ -15,7 +15,7 @@ use Rattle.circuit_plans.specs.declared.plan.PlanFault.TheVariants.{Lines, Gates
 use Rattle.circuit_plans.specs.declared.roles.Start.{Start}
 use Rattle.circuit_plans.specs.declared.roles.Start.TheVariants.{Any}
 use Rattle.circuit_plans.specs.Plans.{BudgetView, LaidView, PlannedView}
-use Rattle.claim_check.specs.Budgets.{Measures}
+use Rattle.claim_check.specs.Budgets.{Measures, lean_gates, lean_lines}
 use Rattle.claim_check.specs.Measures.{IsWithin}
 use Rattle.claim_check.specs.Settled.{SettledView, settled_outputs}
 use Rattle.dependency_graph.specs.Graphs.{ands_in}
@@ -25,12 +25,13 @@ use Rattle.held_nodes.specs.Moves.{roles_of_plan}
 use Rattle.held_nodes.specs.Plans.{HasPortLines, IsNarrowPlan, wanted_lines}
 use Rattle.mct_circuit.specs.Gates.{AreNarrow, GateView}
 use Rattle.mct_circuit.specs.Sizes.{counts_of}
-use Rattle.ready_cleanup.specs.Ready.{IsReadyFault}
+use Rattle.ready_cleanup.specs.Ready.{IsReadyFault, IsWithinReady, ready_gates}
 use Rattle.sum_graph.specs.Graphs.{HasFewBits, HasNoConstant, IsLeanOf, SumGraphView, sum_outputs, weight_in}
 use Rattle.sum_toggles.specs.Toggles.{product_weight, toggle_weight}
 use Rattle.plan_choice.specs.Choices.{GatesAreFew, IsChoiceFault, IsLaidFor, IsLean, LeanFits}
-use Rattle.plan_choice.specs.Lean.{CoveringFits, HasNoMoreGates, IsBetterOfTwo, IsLeanFault, IsNoWorse, toffoli}
-use Rattle.plan_choice.specs.inside.Tried.{IsLaidAsIs, IsLaidLean, IsLaidNarrow, best_of, better_of, is_better, is_refusal}
+use Rattle.plan_choice.specs.Lean.{CoveringFits, IsCovering, IsLeanFault, IsThrifty, toffoli}
+use Rattle.plan_choice.specs.inside.Tried.{IsLaidAsIs, IsLaidBlock, IsLaidEach, IsLaidLean, IsLaidNarrow, IsLaidReady, best_of, better_of, is_better}
+use Rattle.plan_choice.specs.inside.Tried.{is_refusal}
 use Rattle.plan_choice.proofs.SplitLemmas.{same_outputs}
 
 -- a narrow plan of the lean graph
@@ -51,11 +52,29 @@ module _ {start : Start} {s : SettledView} {l : SumGraphView} {b : BudgetView} {
         narrow = subst AreNarrow (sym kept.same) is.narrow;
       }
 
-  pub laid_products : (block : ℕ) (laid : LaidView) → sums.HasFewProducts l block p → IsLaidAsIs p b laid → length l.nodes ≤ block
-      → toffoli laid ≤ 2 * ands_in s.nodes
-  laid_products block laid few kept covers =
-      let same : toffoli laid ≡ (counts_of p.circuit.gates).ccx = ap (λ (gs : List GateView). (counts_of gs).ccx) kept.same in
-      omega (arith, same, few.plain covers, lean.products)
+-- what is known of its size
+module _ {s : SettledView} {l : SumGraphView} {b : BudgetView} {p : PlannedView} (lean : IsLeanOf s l) (is : IsNarrowPlan Any l b p) (each : sums.HasLineEach l p)
+  where
+    laid_each : (laid : LaidView) → IsLaidAsIs p b laid → IsLaidEach s l b laid
+    laid_each laid kept = record { plan = laid_lean lean is laid kept; lines = omega (arith, kept.laid_of.size, each.few) }
+
+    as_many : (laid : LaidView) → IsLaidAsIs p b laid → length laid.circuit.gates ≡ length p.circuit.gates
+    as_many laid kept = ap (λ (gs : List GateView). length gs) kept.same
+
+    pub laid_ready : IsWithinReady l p → (laid : LaidView) → IsLaidAsIs p b laid → IsLaidReady s l b laid
+    laid_ready few laid kept = record { each = laid_each laid kept; gates = omega (arith, as_many laid kept, few.gates) }
+
+    pub laid_block : (block : ℕ) → sums.IsWithinBlock l block p → sums.HasFewProducts l block p → (laid : LaidView) → IsLaidAsIs p b laid
+        → IsLaidBlock s l block b laid
+    laid_block block within few laid kept = record {
+      each = laid_each laid kept;
+      covering = λ covers.
+          let same : toffoli laid ≡ (counts_of p.circuit.gates).ccx = ap (λ (gs : List GateView). (counts_of gs).ccx) kept.same in
+          let size = within.plain covers in record {
+            products = omega (arith, same, few.plain covers);
+            gates = omega (arith, as_many laid kept, size.1);
+          };
+    }
 
 pub lean_ports : {start : Start} {l : SumGraphView} {b : BudgetView} {p : PlannedView} → IsNarrowPlan start l b p → HasPortLines (first_work l) b
 lean_ports is = omega (arith, is.ports.lines, is.within.lines)
@@ -68,16 +87,10 @@ pub record IsLeanSearch (s : SettledView) (l : SumGraphView) (b : BudgetView) (b
   pub ok : IfOk tried (IsLaidLean s l b)
   pub refused : IfErr tried (IsLeanFault l block b)
 
-lean_ok : (s : SettledView) (l : SumGraphView) (b : BudgetView) (tried : Result LaidView PlanFault) → IfOk tried (IsLaidNarrow Any s b)
-    → IfOk tried (λ laid. CoveringFits l b → toffoli laid ≤ 2 * ands_in s.nodes) → IfOk tried (IsLaidLean s l b)
-lean_ok s l b (Ok laid) made few = record { plan = made; few = few }
-lean_ok s l b (Err e) made few = tt
-
-few_where : (s : SettledView) (l : SumGraphView) (b : BudgetView) (P : Type 0) (tried : Result LaidView PlanFault) → (CoveringFits l b → P)
-    → IfOk tried (λ laid. P → toffoli laid ≤ 2 * ands_in s.nodes)
-    → IfOk tried (λ laid. CoveringFits l b → toffoli laid ≤ 2 * ands_in s.nodes)
-few_where s l b P (Ok laid) to few = λ fits. few (to fits)
-few_where s l b P (Err e) to few = tt
+lean_ok : (s : SettledView) (l : SumGraphView) (b : BudgetView) (block : ℕ) (tried : Result LaidView PlanFault) → (CoveringFits l b → length l.nodes ≤ block)
+    → IfOk tried (IsLaidBlock s l block b) → IfOk tried (IsLaidLean s l b)
+lean_ok s l b block (Ok laid) to made = record { each = made.each; covering = λ fits. made.covering (to fits) }
+lean_ok s l b block (Err e) to made = tt
 
 lean_fault : (l : SumGraphView) (block : ℕ) (b : BudgetView) (tried : Result LaidView PlanFault) → (¬ CoveringFits l b)
     → IfErr tried (sums.IsPebblingFault l block b) → IfErr tried (IsLeanFault l block b)
@@ -101,23 +114,21 @@ none_fits l block b (Err Gates) e h = h.0
 none_fits l block b (Err Memory) e h = absurd (cc)
 
 pub lean_begun : (s : SettledView) (l : SumGraphView) (b : BudgetView) (block : ℕ) (tried : Result LaidView PlanFault) → 1 ≤ block → length l.nodes ≤ block
-    → IfOk tried (IsLaidNarrow Any s b) → IfOk tried (λ laid. length l.nodes ≤ block → toffoli laid ≤ 2 * ands_in s.nodes)
-    → IfErr tried (sums.IsPebblingFault l block b) → IsLeanSearch s l b block tried
-lean_begun s l b block tried some covers ok few refused = record {
+    → IfOk tried (IsLaidBlock s l block b) → IfErr tried (sums.IsPebblingFault l block b) → IsLeanSearch s l b block tried
+lean_begun s l b block tried some covers ok refused = record {
   some = some;
-  ok = lean_ok s l b tried ok (few_where s l b (length l.nodes ≤ block) tried (λ fits. covers) few);
+  ok = lean_ok s l b block tried (λ fits. covers) ok;
   refused = first_fault l block b tried covers refused;
 }
 
 pub lean_halved : (s : SettledView) (l : SumGraphView) (b : BudgetView) (block half : ℕ) (tried next : Result LaidView PlanFault)
     → IsLeanSearch s l b block tried → is_refusal tried ≡ true → 1 ≤ half
-    → IfOk next (IsLaidNarrow Any s b) → IfOk next (λ laid. length l.nodes ≤ half → toffoli laid ≤ 2 * ands_in s.nodes)
-    → IfErr next (sums.IsPebblingFault l half b) → IsLeanSearch s l b half next
-lean_halved s l b block half tried next h e some ok few refused =
+    → IfOk next (IsLaidBlock s l half b) → IfErr next (sums.IsPebblingFault l half b) → IsLeanSearch s l b half next
+lean_halved s l b block half tried next h e some ok refused =
     let none : ¬ CoveringFits l b = none_fits l block b tried e h.refused in
     record {
       some = some;
-      ok = lean_ok s l b next ok (few_where s l b (length l.nodes ≤ half) next (λ fits. absurd (none fits)) few);
+      ok = lean_ok s l b half next (λ fits. absurd (none fits)) ok;
       refused = lean_fault l half b next none refused;
     }
 
@@ -170,6 +181,13 @@ row_covers s l b m lean within fit =
       gates = omega (arith, nodes, outputs, lean.light, lean.light_nodes, lean.outputs, within.outputs, within.steps, fit.few_gates);
     }
 
+-- four toggles of each node are within twice the row
+twice_row : (s : SettledView) (l : SumGraphView) (m : Measures) → IsLeanOf s l → IsWithin s m → ready_gates l ≤ 2 * lean_gates m
+twice_row s l m lean within =
+    let nodes : sum_by toggle_weight l.nodes ≤ weight_in l.nodes = nodes_light l.nodes lean.few_bits lean.no_constants in
+    let outputs : sum_by toggle_weight l.outputs ≤ weight_in l.outputs + length l.outputs = outputs_light l.outputs lean.few_output_bits in
+    omega (arith, nodes, outputs, lean.light, lean.light_nodes, lean.outputs, within.outputs, within.steps)
+
 lines_fault : (s : SettledView) (l : SumGraphView) (b : BudgetView) (need : ℕ) → IsLeanOf s l → IsLeanFault l 1 b (Lines need)
     → IsChoiceFault Lean s b (Lines need)
 lines_fault s l b need lean h = (
@@ -195,147 +213,72 @@ lean_refused s l b (Err Memory) lean h = subst (λ (n : ℕ). HasPortLines n b) 
 
 -- ---- the better of two plans
 
-as_good : (p : LaidView) → IsNoWorse p p
-as_good p = inr (refl, inr (refl, omega arith))
-
--- by lines, and by gates where those are as many
-fewer_lines : (p q : LaidView) → p.circuit.lines ≤ q.circuit.lines → ((p.circuit.lines ≡ q.circuit.lines) → ⊥)
-    → (p.circuit.lines < q.circuit.lines) ⊎ HasNoMoreGates p q
-fewer_lines p q le other = elim (cases_lt p.circuit.lines q.circuit.lines) as (λ _. (p.circuit.lines < q.circuit.lines) ⊎ HasNoMoreGates p q) [
-  | inl less ↦ inl less
-  | inr more ↦ absurd (other (omega (arith, le, more)))
+better : (p q : LaidView) → is_better p q ≡ true → toffoli p ≤ toffoli q
+better p q is = elim (cases_Bool (toffoli p == toffoli q)) as (λ _. toffoli p ≤ toffoli q) [
+  | inr other ↦ let less = ltb-true (toffoli p) (toffoli q) (rw other at is) in omega (arith, less)
+  | inl same ↦ let e = eqb-true (toffoli p) (toffoli q) same in omega (arith, e)
 ]
 
-fewer_toffoli : (p q : LaidView) → toffoli p ≤ toffoli q → ((toffoli p ≡ toffoli q) → ⊥) → IsNoWorse p q
-fewer_toffoli p q le other = elim (cases_lt (toffoli p) (toffoli q)) as (λ _. IsNoWorse p q) [
-  | inl less ↦ inl less
-  | inr more ↦ absurd (other (omega (arith, le, more)))
+not_better : (p q : LaidView) → is_better p q ≡ false → toffoli q ≤ toffoli p
+not_better p q is = elim (cases_Bool (toffoli p == toffoli q)) as (λ _. toffoli q ≤ toffoli p) [
+  | inr other ↦ ltb-false (toffoli p) (toffoli q) (rw other at is)
+  | inl same ↦ let e = eqb-true (toffoli p) (toffoli q) same in omega (arith, e)
 ]
-
-better : (p q : LaidView) → is_better p q ≡ true → IsNoWorse p q
-better p q is = elim (cases_Bool (toffoli p == toffoli q)) as (λ _. IsNoWorse p q) [
-  | inr other ↦ inl (ltb-true (toffoli p) (toffoli q) (rw other at is))
-  | inl same ↦ inr (eqb-true (toffoli p) (toffoli q) same, by_lines (rw same at is))
-]
-  where
-    by_lines : (if p.circuit.lines == q.circuit.lines then nat_lt (length p.circuit.gates) (length q.circuit.gates)
-        else nat_lt p.circuit.lines q.circuit.lines) ≡ true → (p.circuit.lines < q.circuit.lines) ⊎ HasNoMoreGates p q
-    by_lines e = elim (cases_Bool (p.circuit.lines == q.circuit.lines)) as (λ _. (p.circuit.lines < q.circuit.lines) ⊎ HasNoMoreGates p q) [
-      | inr other ↦ inl (ltb-true p.circuit.lines q.circuit.lines (rw other at e))
-      | inl same ↦
-          let less : length p.circuit.gates < length q.circuit.gates = ltb-true (length p.circuit.gates) (length q.circuit.gates) (rw same at e) in
-          inr (eqb-true p.circuit.lines q.circuit.lines same, omega (arith, less))
-    ]
-
-not_better : (p q : LaidView) → is_better p q ≡ false → IsNoWorse q p
-not_better p q is = elim (cases_Bool (toffoli p == toffoli q)) as (λ _. IsNoWorse q p) [
-  | inr other ↦ fewer_toffoli q p (ltb-false (toffoli p) (toffoli q) (rw other at is)) (λ e. eqb-false (toffoli p) (toffoli q) other (sym e))
-  | inl same ↦ inr (sym (eqb-true (toffoli p) (toffoli q) same), by_lines (rw same at is))
-]
-  where
-    by_lines : (if p.circuit.lines == q.circuit.lines then nat_lt (length p.circuit.gates) (length q.circuit.gates)
-        else nat_lt p.circuit.lines q.circuit.lines) ≡ false → (q.circuit.lines < p.circuit.lines) ⊎ HasNoMoreGates q p
-    by_lines e = elim (cases_Bool (p.circuit.lines == q.circuit.lines)) as (λ _. (q.circuit.lines < p.circuit.lines) ⊎ HasNoMoreGates q p) [
-      | inr other ↦
-          fewer_lines q p (ltb-false p.circuit.lines q.circuit.lines (rw other at e)) (λ same. eqb-false p.circuit.lines q.circuit.lines other (sym same))
-      | inl same ↦
-          inr (sym (eqb-true p.circuit.lines q.circuit.lines same), ltb-false (length p.circuit.gates) (length q.circuit.gates) (rw same at e))
-    ]
-
--- fewer flips under two lines
-fewest : (p q : LaidView) → IsNoWorse p q → toffoli p ≤ toffoli q
-fewest p q no_worse = elim no_worse as (λ _. toffoli p ≤ toffoli q) [ inl less ↦ omega (arith, less) | inr same ↦ omega (arith, same.0) ]
 
 -- what is known of the two plans of a lean graph
 pub record AreTried (s : SettledView) (l : SumGraphView) (b : BudgetView) (ready pebbling : Result LaidView PlanFault) : Type 0 where
   pub lean : IsLeanOf s l
-  pub ready_fits : IfOk ready (IsLaidNarrow Any s b)
+  pub ready_fits : IfOk ready (IsLaidReady s l b)
   pub ready_refused : IfErr ready (IsReadyFault l b)
   pub fits : IfOk pebbling (IsLaidLean s l b)
   pub refused : IfErr pebbling (IsLeanFault l 1 b)
 
--- what is laid
-record IsTaken (s : SettledView) (l : SumGraphView) (b : BudgetView) (laid : LaidView) : Type 0 where
-  plan : IsLaidNarrow Any s b laid
-  better : IsBetterOfTwo l b laid
-  few : CoveringFits l b → toffoli laid ≤ 2 * ands_in s.nodes
-
 module _ (s : SettledView) (l : SumGraphView) (b : BudgetView) where
-  best_of_both : (r p laid : LaidView) → ◌≡◌ {A = Result LaidView PlanFault} (Ok r) (Ok laid) ⊎ ◌≡◌ {A = Result LaidView PlanFault} (Ok p) (Ok laid)
-      → IsNoWorse laid r → IsNoWorse laid p → IsBetterOfTwo l b laid
-  best_of_both r p laid one than_ready than_pebbling = record {
-    ready = Ok r;
-    pebbling = Ok p;
-    ready_refused = tt;
-    pebbling_refused = tt;
-    enough = (λ q. cc, λ q. cc);
-    one = one;
-    best = (than_ready, than_pebbling);
-  }
-
-  both_fit : (r p : LaidView) → AreTried s l b (Ok r) (Ok p) → IfOk (better_of r (Ok p)) (IsTaken s l b)
-  both_fit r p t = elim (cases_Bool (is_better p r)) as (λ _. IfOk (better_of r (Ok p)) (IsTaken s l b)) [
-    | inl e ↦ rw e (record { plan = t.fits.plan; better = best_of_both r p p (inr refl) (better p r e) (as_good p); few = t.fits.few })
+  both_fit : (r p : LaidView) → IsLaidReady s l b r → IsLaidLean s l b p → IfOk (better_of r (Ok p)) (IsLaidLean s l b)
+  both_fit r p ready lean = elim (cases_Bool (is_better p r)) as (λ _. IfOk (better_of r (Ok p)) (IsLaidLean s l b)) [
+    | inl e ↦ rw e lean
     | inr e ↦
-        let worse = not_better p r e in
-        let few : CoveringFits l b → toffoli r ≤ 2 * ands_in s.nodes = λ fits. omega (arith, t.fits.few fits, fewest r p worse) in
-        rw e (record { plan = t.ready_fits; better = best_of_both r p r (inl refl) (as_good r) worse; few = few })
+        let fewer = not_better p r e in
+        rw e (record { each = ready.each; covering = λ fits. record { products = omega (arith, fewer, (lean.covering fits).products); gates = ready.gates } })
   ]
 
-  ready_alone : (r : LaidView) (fault : PlanFault) → ((fault ≡ Memory) → ⊥) → (¬ CoveringFits l b) → AreTried s l b (Ok r) (Err fault) → IsTaken s l b r
-  ready_alone r fault other none t = record {
-    plan = t.ready_fits;
-    better = record {
-      ready = Ok r;
-      pebbling = Err fault;
-      ready_refused = tt;
-      pebbling_refused = t.refused;
-      enough = (λ q. cc, λ q. other (cc));
-      one = inl refl;
-      best = (as_good r, tt);
-    };
-    few = λ fits. absurd (none fits);
-  }
+  ready_alone : (r : LaidView) → IsLaidReady s l b r → (¬ CoveringFits l b) → IsLaidLean s l b r
+  ready_alone r ready none = record { each = ready.each; covering = λ fits. absurd (none fits) }
 
-  pebbling_alone : (fault : PlanFault) (p : LaidView) → ((fault ≡ Memory) → ⊥) → AreTried s l b (Err fault) (Ok p) → IsTaken s l b p
-  pebbling_alone fault p other t = record {
-    plan = t.fits.plan;
-    better = record {
-      ready = Err fault;
-      pebbling = Ok p;
-      ready_refused = t.ready_refused;
-      pebbling_refused = tt;
-      enough = (λ q. other (cc), λ q. cc);
-      one = inr refl;
-      best = (tt, as_good p);
-    };
-    few = t.fits.few;
-  }
-
-  taken : (ready pebbling : Result LaidView PlanFault) → AreTried s l b ready pebbling → IfOk (best_of ready pebbling) (IsTaken s l b)
-  taken (Ok r) (Ok p) t = both_fit r p t
-  taken (Ok r) (Err (Lines need)) t = ready_alone r (Lines need) (λ e. cc) t.refused.0 t
-  taken (Ok r) (Err Gates) t = ready_alone r Gates (λ e. cc) t.refused.0 t
+  taken : (ready pebbling : Result LaidView PlanFault) → AreTried s l b ready pebbling → IfOk (best_of ready pebbling) (IsLaidLean s l b)
+  taken (Ok r) (Ok p) t = both_fit r p t.ready_fits t.fits
+  taken (Ok r) (Err (Lines need)) t = ready_alone r t.ready_fits t.refused.0
+  taken (Ok r) (Err Gates) t = ready_alone r t.ready_fits t.refused.0
   taken (Ok r) (Err Memory) t = tt
-  taken (Err (Lines need)) (Ok p) t = pebbling_alone (Lines need) p (λ e. cc) t
-  taken (Err (Lines need)) (Err e) t = tt
-  taken (Err Gates) (Ok p) t = pebbling_alone Gates p (λ e. cc) t
-  taken (Err Gates) (Err e) t = tt
+  taken (Err (Lines need)) pebbling t = t.fits
+  taken (Err Gates) pebbling t = t.fits
   taken (Err Memory) pebbling t = tt
 
   pub best_fits : (ready pebbling : Result LaidView PlanFault) → AreTried s l b ready pebbling → IfOk (best_of ready pebbling) (IsLaidFor Any s b)
-  best_fits ready pebbling t = IfOk-weaker (best_of ready pebbling) (IsTaken s l b) (IsLaidFor Any s b) (λ laid is. is.plan.for_graph) (taken ready pebbling t)
+  best_fits ready pebbling t =
+      IfOk-weaker (best_of ready pebbling) (IsLaidLean s l b) (IsLaidFor Any s b) (λ laid is. is.each.plan.for_graph) (taken ready pebbling t)
+
+  thrifty : (laid : LaidView) → IsLeanOf s l → IsCovering l laid → IsThrifty s laid
+  thrifty laid lean is = record {
+    all = omega (arith, is.products, lean.products);
+    lone = λ lone go. omega (arith, is.products, lean.products, lean.nodes_beside lone go);
+  }
+
+  is_lean : IsLeanOf s l → (laid : LaidView) → IsLaidLean s l b laid → IsLean s b laid
+  is_lean lean laid is = record {
+    graph = l;
+    lean = lean;
+    narrow = is.each.plan.narrow;
+    lines = is.each.lines;
+    covering = is.covering;
+    row_lines = λ m within. omega (arith, is.each.lines, lean.inputs, lean.outputs, lean.few, within.inputs, within.outputs, within.steps);
+    row_gates = λ m within fit.
+        omega (arith, (is.covering (row_covers s l b m lean within fit)).gates, twice_row s l m lean within);
+    few = λ m within fit. thrifty laid lean (is.covering (row_covers s l b m lean within fit));
+  }
 
   pub best_lean : (ready pebbling : Result LaidView PlanFault) → AreTried s l b ready pebbling → IfOk (best_of ready pebbling) (IsLean s b)
-  best_lean ready pebbling t =
-      IfOk-weaker (best_of ready pebbling) (IsTaken s l b) (IsLean s b)
-      (λ laid is. record {
-        graph = l;
-        lean = t.lean;
-        better = is.better;
-        narrow = is.plan.narrow;
-        few = λ m within fit. is.few (row_covers s l b m t.lean within fit);
-      }) (taken ready pebbling t)
+  best_lean ready pebbling t = IfOk-weaker (best_of ready pebbling) (IsLaidLean s l b) (IsLean s b) (is_lean t.lean) (taken ready pebbling t)
 
   -- of a plan that was refused, where another one is not wanting memory
   better_refused : (ready : LaidView) (tried : Result LaidView PlanFault) → IfErr tried (IsLeanFault l 1 b) → IfErr (better_of ready tried) (IsLeanFault l 1 b)

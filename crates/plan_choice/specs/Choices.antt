@@ -1,22 +1,22 @@
 -- Which budgets are enough for a choice of plans, and what is laid.
-use Rattle.std.specs.Prelude.{◌≡◌, ◌≢◌, Result, Err, IfErr, IfOk, ℕ, suc, ◌*◌, ◌^◌, ◌<◌, ◌≤◌, ◌⊎◌, length}
+use Rattle.std.specs.Prelude.{◌≡◌, ◌≢◌, Result, Err, IfErr, IfOk, ℕ, suc, ◌+◌, ◌*◌, ◌^◌, ◌<◌, ◌≤◌, ◌⊎◌, length}
 use Rattle.revs_tape.specs.Levels.{IsLevels}
 use Rattle.claim_check.specs.Budgets.{Measures, plain_lines, plain_gates, fine_lines, fine_gates}
 use Rattle.claim_check.specs.Budgets.{block_lines, block_gates, eager_lines, eager_gates}
 use Rattle.claim_check.specs.Budgets.{lean_lines, lean_gates}
 use Rattle.claim_check.specs.Measures.{IsWithin}
 use Rattle.claim_check.specs.Settled.{SettledView, settled_outputs}
-use Rattle.dependency_graph.specs.Graphs.{ands_in}
 use Rattle.circuit_plans.specs.declared.plan.PlanFault.{PlanFault}
 use Rattle.circuit_plans.specs.declared.plan.PlanFault.TheVariants.{Lines, Gates, Memory}
 use Rattle.circuit_plans.specs.declared.roles.Start.{Start}
 use Rattle.circuit_plans.specs.Plans.{AddsOutputs, BudgetView, LaidView, roles_of}
+use Rattle.held_nodes.specs.Held.{first_work}
 use Rattle.held_nodes.specs.Plans.{HasPortLines, wanted_lines}
 use Rattle.mct_circuit.specs.Gates.{AreNarrow}
 use Rattle.eager_cleanup.specs.Eager.{AreWithinEager, ports_of}
 use Rattle.bennett_pebbling.specs.Blocks.{AreWithinBlock}
 use Rattle.plan_choice.specs.Blocks.{extent_of}
-use Rattle.plan_choice.specs.Lean.{IsAsCompact, IsBetterOfTwo, toffoli}
+use Rattle.plan_choice.specs.Lean.{CoveringFits, IsAsCompact, IsCovering, IsThrifty}
 use Rattle.sum_graph.specs.Graphs.{IsLeanOf, SumGraphView}
 use Rattle.circuit_plans.specs.declared.choice.How.{How}
 use Rattle.circuit_plans.specs.declared.choice.How.TheVariants.{Auto, Compact, Eager, Lean, Pebble}
@@ -141,17 +141,22 @@ pub record IsPebbling (s : SettledView) (b : BudgetView) (laid : LaidView) : Typ
       (length laid.circuit.gates)
   pub first : (length s.nodes ≤ 2 ^ power) ⊎ NoLargerFits s (2 ^ suc power) b
 
--- The better of two plans of a lean graph, of narrow gates; where the lean row fits, it has at most two Toffoli gates for
--- each AND of the settled graph.
+-- A plan of a lean graph, of narrow gates: it has at most a line for each input, output, node and borrowed bit of that
+-- graph, and so no more than its row; where one block of all nodes fits, few Toffoli gates and gates for that graph; and
+-- where the row fits, few for the settled graph, and no more than twice the gates of the row.
 pub record IsLean (s : SettledView) (b : BudgetView) (laid : LaidView) : Type 0 where
   pub graph : SumGraphView
   pub lean : IsLeanOf s graph
-  pub better : IsBetterOfTwo graph b laid
   pub narrow : AreNarrow laid.circuit.gates
-  pub few : (m : Measures) → IsWithin s m → LeanFits b m → toffoli laid ≤ 2 * ands_in s.nodes
+  pub lines : laid.circuit.lines ≤ first_work graph + length graph.nodes + b.borrow
+  pub covering : CoveringFits graph b → IsCovering graph laid
+  pub row_lines : (m : Measures) → IsWithin s m → laid.circuit.lines ≤ lean_lines m b.borrow
+  pub row_gates : (m : Measures) → IsWithin s m → LeanFits b m
+      → length laid.circuit.gates ≤ 2 * lean_gates m
+  pub few : (m : Measures) → IsWithin s m → LeanFits b m → IsThrifty s laid
 
 -- The best of the lean plan and of what planners found, of narrow gates: it is no worse than the lean plan where that
--- fits, and where the lean row fits, it has at most two Toffoli gates for each AND of the settled graph.
+-- fits, and where the lean row fits, it has few Toffoli gates for the settled graph.
 pub record IsCompact (s : SettledView) (b : BudgetView) (laid : LaidView) : Type 0 where
   pub lean : Result LaidView PlanFault
   pub is_lean : IfOk lean (IsLean s b)
@@ -159,7 +164,7 @@ pub record IsCompact (s : SettledView) (b : BudgetView) (laid : LaidView) : Type
   pub enough : lean ≢ Err Memory
   pub best : IfOk lean (IsAsCompact laid)
   pub narrow : AreNarrow laid.circuit.gates
-  pub few : (m : Measures) → IsWithin s m → LeanFits b m → toffoli laid ≤ 2 * ands_in s.nodes
+  pub few : (m : Measures) → IsWithin s m → LeanFits b m → IsThrifty s laid
 
 -- the eager numbers do not both fit
 pub record NoEagerFits (s : SettledView) (b : BudgetView) : Type 0 where

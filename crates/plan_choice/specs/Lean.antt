@@ -1,13 +1,16 @@
--- The two plans of a lean graph, and which of them is laid.
-use Rattle.std.specs.Prelude.{◌≡◌, ◌≢◌, ◌⊎◌, ℕ, ◌+◌, ◌*◌, ◌<◌, ◌≤◌, Result, Ok, Err, IfErr, IfOk, length}
+-- Plans of a lean graph: why there is none, and what one costs.
+use Rattle.std.specs.Prelude.{◌≡◌, ◌⊎◌, ℕ, ◌+◌, ◌*◌, ◌<◌, ◌≤◌, Bool, length}
 use Rattle.bennett_pebbling.specs.Pebbling.{IsPebblingFault, plain_weight}
 use Rattle.circuit_plans.specs.declared.plan.PlanFault.{PlanFault}
 use Rattle.circuit_plans.specs.declared.plan.PlanFault.TheVariants.{Lines, Gates, Memory}
 use Rattle.circuit_plans.specs.Plans.{BudgetView, LaidView}
 use Rattle.held_nodes.specs.Held.{first_work}
 use Rattle.mct_circuit.specs.Sizes.{counts_of}
-use Rattle.ready_cleanup.specs.Ready.{IsReadyFault}
-use Rattle.sum_graph.specs.Graphs.{SumGraphView}
+use Rattle.claim_check.specs.Settled.{SettledView}
+use Rattle.dependency_graph.specs.Graphs.{ands_in}
+use Rattle.ready_cleanup.specs.Ready.{ready_gates}
+use Rattle.sum_graph.specs.Graphs.{SumGraphView, products_in}
+use Rattle.sum_graph.specs.Lone.{GoToOneOutput, ands_beside}
 
 -- ---- refusals
 
@@ -23,32 +26,23 @@ IsLeanFault l block b (Lines need) =
 IsLeanFault l block b Gates = (¬ CoveringFits l b) × IsPebblingFault l block b Gates
 IsLeanFault l block b Memory = IsPebblingFault l block b Memory
 
--- ---- the better of two plans
+-- ---- what is laid
 
 -- the number of Toffoli gates: flips under two lines
 abbrev pub toffoli : LaidView → ℕ
 toffoli laid = (counts_of laid.circuit.gates).ccx
 
--- no more gates, where the lines are as many
-abbrev pub HasNoMoreGates : LaidView → LaidView → Type 0
-HasNoMoreGates p q =
-    (p.circuit.lines ≡ q.circuit.lines) × (length p.circuit.gates ≤ length q.circuit.gates)
+-- At most two Toffoli gates for each product of a node and one for each of an output, and no more gates than four toggles
+-- of each node and one of each output weigh.
+pub record IsCovering (l : SumGraphView) (laid : LaidView) : Type 0 where
+  pub products : toffoli laid ≤ 2 * products_in l.nodes + products_in l.outputs
+  pub gates : length laid.circuit.gates ≤ ready_gates l
 
--- fewer Toffoli gates; or as many and fewer lines; or as many of both and no more gates
-abbrev pub IsNoWorse : LaidView → LaidView → Type 0
-IsNoWorse p q = (toffoli p < toffoli q)
-    ⊎ ((toffoli p ≡ toffoli q) × ((p.circuit.lines < q.circuit.lines) ⊎ HasNoMoreGates p q))
-
--- One of two plans is laid, the ready one of the lean graph or the first pebbling that fits, and it is no worse than
--- either that fits; none was given up for want of memory.
-pub record IsBetterOfTwo (l : SumGraphView) (b : BudgetView) (laid : LaidView) : Type 0 where
-  pub ready : Result LaidView PlanFault
-  pub pebbling : Result LaidView PlanFault
-  pub ready_refused : IfErr ready (IsReadyFault l b)
-  pub pebbling_refused : IfErr pebbling (IsLeanFault l 1 b)
-  pub enough : (ready ≢ Err Memory) × (pebbling ≢ Err Memory)
-  pub one : (ready ≡ Ok laid) ⊎ (pebbling ≡ Ok laid)
-  pub best : IfOk ready (IsNoWorse laid) × IfOk pebbling (IsNoWorse laid)
+-- At most two Toffoli gates for each AND of the settled graph, and only one for each that goes to one output alone.
+pub record IsThrifty (s : SettledView) (laid : LaidView) : Type 0 where
+  pub all : toffoli laid ≤ 2 * ands_in s.nodes
+  pub lone : (lone : ℕ → Bool) → GoToOneOutput s lone
+      → toffoli laid ≤ ands_in s.nodes + ands_beside lone s.nodes
 
 -- ---- the best of several plans
 

@@ -20,17 +20,19 @@ use sum_graph::SumGraph;
 /// ones. The circuit adds the outputs to whatever the output lines hold, and takes each input,
 /// zeros on the work lines and anything on the borrowed lines to the same. An eager plan is within
 /// the eager numbers, a pebbling within those of its block; it is that of the largest block that
-/// fits, and `Auto` takes one only where the eager numbers do not fit. `Lean` takes the better of
-/// two plans of the lean graph, and `Compact`, under which the output lines start at 0, the best of
-/// that one and of what planners find there; where the lean row fits, these have at most two
-/// Toffoli gates for each AND of the graph.
+/// fits, and `Auto` takes one only where the eager numbers do not fit. `Lean` takes a plan of the
+/// lean graph, on at most a line for each input, output, node and borrowed bit, and `Compact`, under
+/// which the output lines start at 0, the best of that one and of what planners find there; where
+/// the lean row fits, these have at most two Toffoli gates for each AND of the graph, and one for
+/// each that goes to one output alone.
 ///
 /// # Errors
 ///
 /// The refusal of the last plan that was tried; want of memory ends the search. Never where both
 /// numbers of a row that `how` allows fit. `Lines` and `Gates` come only where the budget has fewer
-/// of them than the fine number of the graph, for `Eager` than its eager number, and `Lines` for
-/// `Lean` and `Compact` than a line for each node. `need` is the number of inputs, outputs and
+/// of them than the fine number of the graph, for `Eager` than its eager number; for `Lean` and
+/// `Compact`, `Lines` only where it does not have a line for each node, and `Gates` only where the
+/// row does not fit, be it in lines or in gates. `need` is the number of inputs, outputs and
 /// borrowed lines where that passes the budget, and one line more than the budget otherwise.
 pub fn choose(alloc: Global, graph: &Settled, budget: &Budget, how: How) -> Result<Laid, PlanFault>
     ensures ok { IfOk result (IsLaidFor (start_of how) graph.now budget.now) }

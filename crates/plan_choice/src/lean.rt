@@ -1,13 +1,12 @@
 // Plans of a lean graph, laid: narrow gates stay as they are.
-ghost use Rattle.std.specs.Prelude.{◌≡◌, ◌*◌, ◌≤◌, length, IfOk, IfErr, if◌then◌else◌};
+ghost use Rattle.std.specs.Prelude.{◌≡◌, ◌≤◌, IfOk, IfErr, if◌then◌else◌};
 ghost use Rattle.bennett_pebbling.specs.Pebbling.{IsPebblingFault};
-ghost use Rattle.dependency_graph.specs.Graphs.{ands_in};
 ghost use Rattle.circuit_plans.specs.declared.choice.How.TheVariants.{Lean};
 ghost use Rattle.circuit_plans.specs.declared.roles.Start.TheVariants.{Any};
 ghost use Rattle.plan_choice.specs.Choices.{IsChoiceFault, IsLaidFor, IsLean};
-ghost use Rattle.plan_choice.specs.Lean.{IsLeanFault, toffoli};
-ghost use Rattle.plan_choice.specs.inside.Tried.{IsLaidLean, IsLaidNarrow, best_of, better_of};
-ghost use Rattle.plan_choice.specs.inside.Tried.{is_better};
+ghost use Rattle.plan_choice.specs.Lean.{IsLeanFault};
+ghost use Rattle.plan_choice.specs.inside.Tried.{IsLaidBlock, IsLaidLean, IsLaidReady, best_of};
+ghost use Rattle.plan_choice.specs.inside.Tried.{better_of, is_better};
 ghost use Rattle.ready_cleanup.specs.Ready.{IsReadyFault};
 ghost use Rattle.sum_graph.specs.Graphs.{IsLeanOf};
 
@@ -20,7 +19,7 @@ use sum_graph::SumGraph;
 // The ready plan of a lean graph, laid.
 pub fn lay_ready(alloc: Global, graph: &Settled, lean: &SumGraph, budget: &Budget) -> Tried
     requires lean { IsLeanOf graph.now lean.now }
-    ensures ok { IfOk result (IsLaidNarrow Any graph.now budget.now) }
+    ensures ok { IfOk result (IsLaidReady graph.now lean.now budget.now) }
     ensures refused { IfErr result (IsReadyFault lean.now budget.now) }
 {
     let planned = ready_cleanup::plan(alloc, lean, budget)?;
@@ -37,9 +36,7 @@ pub fn lay_lean_blocks(
 ) -> Tried
     requires some { 1 ≤ block }
     requires lean { IsLeanOf graph.now lean.now }
-    ensures ok { IfOk result (IsLaidNarrow Any graph.now budget.now) }
-    ensures products { IfOk result (λ laid. length lean.now.nodes ≤ block
-        → toffoli laid ≤ 2 * ands_in graph.now.nodes) }
+    ensures ok { IfOk result (IsLaidBlock graph.now lean.now block budget.now) }
     ensures refused { IfErr result (IsPebblingFault lean.now block budget.now) }
 {
     let planned = bennett_pebbling::plan(alloc, lean, block, budget)?;

@@ -4,10 +4,11 @@ use Rattle.std.specs.Prelude.{nat_lt}
 use Rattle.std.specs.Result.{IfOk, IfErr}
 use Rattle.std.proofs.lemmas.Bool.Decides.{leb_tells}
 use Rattle.std.proofs.lemmas.List.{length-map}
-use Rattle.claim_check.specs.Budgets.{Measures}
+use Rattle.claim_check.specs.Budgets.{Measures, lean_gates, lean_lines}
 use Rattle.claim_check.specs.Measures.{AreMeasuresOf, IsNoLarger, IsWithin}
 use Rattle.claim_check.specs.Settled.{SettledView, IsSettledOf}
 use Rattle.claim_check.proofs.BudgetLemmas.{settled_graphs_are_within}
+use Rattle.claim_check.proofs.MeasureLemmas.{tapes_have_measures}
 use Rattle.circuit_plans.specs.declared.plan.TheConstants.{MOST_LINES, MOST_GATES}
 use Rattle.circuit_plans.specs.declared.choice.How.{How}
 use Rattle.format_parts.specs.Fits.{FitAFile}
@@ -17,7 +18,8 @@ use Rattle.mct_circuit.specs.Gates.{AreGatesOn, AreNarrow}
 use Rattle.qasm_format.proofs.MeaningLemmas as qasm
 use Rattle.real_format.proofs.MeaningLemmas as real
 use Rattle.mct_circuit.specs.Sizes.{counts_of}
-use Rattle.plan_choice.specs.Choices.{IsChosen, IsCompact, IsLean}
+use Rattle.circuit_plans.specs.declared.choice.How.TheVariants.{Lean}
+use Rattle.plan_choice.specs.Choices.{IsChosen, IsCompact, IsLean, LeanFits}
 use Rattle.program_commands.specs.Outcomes.{IsCompileFault, IsSettlingFault, IsWritable, file_of}
 use Rattle.revc_words.specs.declared.order.Format.{Format}
 use Rattle.revc_words.specs.declared.order.Format.TheVariants.{Real, Qasm}
@@ -31,7 +33,7 @@ use Rattle.revs_terms.proofs.TapeLemmas.{tape_gives_output}
 use Rattle.command_answers.specs.declared.fault.Fault.{Fault}
 use Rattle.command_answers.specs.declared.fault.Fault.TheVariants as faults
 use Rattle.program_commands.specs.Clean.{ComputesOn, MeansCompiledIn}
-use Rattle.program_commands.specs.Compile.{HasFewToffoliGates, IsCompiled, budget_of, least_lines}
+use Rattle.program_commands.specs.Compile.{HasFewToffoliGates, HasLeanSize, IsCompiled, LeanRowFits, budget_of, least_lines, row_gates, row_lines}
 use Rattle.program_commands.specs.Settling.{LeavesTape, LeavesSettled, ForTexts, IsSettledWithin}
 use Rattle.program_commands.specs.inside.Plans.{IsCleanPlan, IsPlanOf, IsPlannedFor, IsPlanningFault}
 use Rattle.program_commands.proofs.FormedLemmas.{some_output}
@@ -67,21 +69,47 @@ writable start laid p b c =
     let most_gates = c.most_gates in
     record { some = c.some; few = omega arith; few_gates = omega arith }
 
--- no more ANDs stand in a settled graph than the run of its program writes
-few_toffoli_gates : (order : OrderView) (laid : LaidView) (tape : TapeView) (s : SettledView) → IsSettledOf tape s → IsNoLarger tape s
-    → IsChosen order.plan s (budget_of order) laid → HasFewToffoliGates order tape laid.circuit.gates
-few_toffoli_gates order laid tape s is no_larger chosen = record {
-  few = λ which m are fit.
-      (let within = settled_graphs_are_within tape s m is no_larger are in
-      elim which as (λ _. (counts_of laid.circuit.gates).ccx ≤ 2 * ands_of tape) [
-        | inl lean ↦
-            let plan : IsLean s (budget_of order) laid = subst (λ (how : How). IsChosen how s (budget_of order) laid) lean chosen in
-            omega (arith, plan.few m within fit, no_larger.ands)
+-- a plan of a settled graph, by what the run of its program writes
+module _ (order : OrderView) (laid : LaidView) (tape : TapeView) (s : SettledView) (is : IsSettledOf tape s) (no_larger : IsNoLarger tape s)
+    (chosen : IsChosen order.plan s (budget_of order) laid)
+  where
+    m : Measures
+    m = (tapes_have_measures tape).measures
+
+    are : AreMeasuresOf tape m
+    are = (tapes_have_measures tape).are
+
+    within : IsWithin s m
+    within = settled_graphs_are_within tape s m is no_larger are
+
+    same_lines : lean_lines m order.borrow ≡ row_lines tape order
+    same_lines = omega (arith, are.inputs, are.outputs, are.steps)
+
+    same_gates : lean_gates m ≡ row_gates tape
+    same_gates = omega (arith, are.outputs, are.steps)
+
+    row_fits : LeanRowFits order tape → LeanFits (budget_of order) m
+    row_fits fit = record { few_lines = omega (arith, same_lines, fit.lines); few_gates = omega (arith, same_gates, fit.gates) }
+
+    lean_plan : order.plan ≡ Lean → IsLean s (budget_of order) laid
+    lean_plan lean = subst (λ (how : How). IsChosen how s (budget_of order) laid) lean chosen
+
+    -- no more ANDs stand in a settled graph than the run of its program writes
+    few_toffoli_gates : HasFewToffoliGates order tape laid.circuit.gates
+    few_toffoli_gates = record {
+      few = λ which fit. elim which as (λ _. (counts_of laid.circuit.gates).ccx ≤ 2 * ands_of tape) [
+        | inl lean ↦ omega (arith, ((lean_plan lean).few m within (row_fits fit)).all, no_larger.ands)
         | inr compact ↦
             let plan : IsCompact s (budget_of order) laid = subst (λ (how : How). IsChosen how s (budget_of order) laid) compact chosen in
-            omega (arith, plan.few m within fit, no_larger.ands)
-      ]);
-}
+            omega (arith, (plan.few m within (row_fits fit)).all, no_larger.ands)
+      ];
+    }
+
+    lean_size : HasLeanSize order tape laid.circuit.lines (length laid.circuit.gates)
+    lean_size = record {
+      few_lines = λ lean. omega (arith, (lean_plan lean).row_lines m within, same_lines);
+      few_gates = λ lean fit. omega (arith, (lean_plan lean).row_gates m within (row_fits fit), same_gates);
+    }
 
 planned : (order : OrderView) (text : List ℕ) (laid : LaidView) (tape : TapeView) (s : SettledView) (l : LeavesSettled text order.nodes tape)
     → IsSettledWithin tape order.nodes s → IsPlanOf order.plan s (budget_of order) laid → IsCleanPlan (start_of order.plan) laid l.left.program (budget_of order)
@@ -112,6 +140,9 @@ planned order text laid tape s l settled plan c =
           gates_are = refl;
           chosen = plan.chosen;
           few_toffoli_gates = few_toffoli_gates order laid tape s settled.of_tape settled.no_larger plan.chosen;
+          lean_size =
+              subst (λ (n : ℕ). HasLeanSize order tape n (length laid.circuit.gates)) (sym plan.sum_of)
+              (lean_size order laid tape s settled.of_tape settled.no_larger plan.chosen);
         };
       };
       can = writable (start_of order.plan) laid l.left.program (budget_of order) c;

@@ -10,8 +10,8 @@ use Rattle.circuit_plans.specs.Plans.{BudgetView, LaidView, lines_in, roles_of, 
 use Rattle.mct_circuit.specs.Gates.{GateView}
 use Rattle.mct_circuit.specs.Sizes.{counts_of}
 use Rattle.circuit_plans.specs.declared.choice.How.TheVariants.{Compact, Lean}
-use Rattle.plan_choice.specs.Choices.{HasFewLines, HasFewGates, IsChosen, LeanFits, SomeRowFits}
-use Rattle.revs_tape.specs.Measures.{ands_of, inputs_of, outputs_of}
+use Rattle.plan_choice.specs.Choices.{HasFewLines, HasFewGates, IsChosen, SomeRowFits}
+use Rattle.revs_tape.specs.Measures.{ands_of, inputs_of, outputs_of, writes_of}
 use Rattle.revs_tape.specs.Tapes.{TapeView}
 use Rattle.revc_words.specs.Words.{OrderView}
 use Rattle.revs_parser.specs.WellFormed.{IsWellFormed}
@@ -26,19 +26,36 @@ abbrev pub budget_of : OrderView → BudgetView
 budget_of order =
     record { lines = order.lines; gates = order.gates; borrow = order.borrow }
 
--- The law of Toffoli gates: under the plans `lean` and `compact`, where both numbers of the lean row fit the budgets by
--- the measures of the program's tape, there are at most two Toffoli gates (flips with two controls) for each AND that
--- the program's run writes.
+-- the lean row of a run: a line for each input, output, write and borrowed bit, and 58 gates for each write and 5 for
+-- each output
+abbrev pub row_lines : TapeView → OrderView → ℕ
+row_lines tape order = inputs_of tape + outputs_of tape + writes_of tape + order.borrow
+
+abbrev pub row_gates : TapeView → ℕ
+row_gates tape = 58 * writes_of tape + 5 * outputs_of tape
+
+-- both its numbers fit the budgets
+pub record LeanRowFits (order : OrderView) (tape : TapeView) : Type 0 where
+  pub lines : row_lines tape order ≤ order.lines
+  pub gates : row_gates tape ≤ order.gates
+
+-- The law of Toffoli gates: under the plans `lean` and `compact`, where the lean row fits, there are at most two Toffoli
+-- gates (flips with two controls) for each AND that the program's run writes.
 pub record HasFewToffoliGates (order : OrderView) (tape : TapeView) (gates : List GateView)
     : Type 0 where
-  pub few : (order.plan ≡ Lean) ⊎ (order.plan ≡ Compact) → (m : Measures)
-      → AreMeasuresOf tape m → LeanFits (budget_of order) m
+  pub few : (order.plan ≡ Lean) ⊎ (order.plan ≡ Compact) → LeanRowFits order tape
       → (counts_of gates).ccx ≤ 2 * ands_of tape
+
+-- The law of lean sizes: under the plan `lean` there are no more lines than those of the lean row, and where it fits, no
+-- more than twice its gates.
+pub record HasLeanSize (order : OrderView) (tape : TapeView) (lines gates : ℕ) : Type 0 where
+  pub few_lines : order.plan ≡ Lean → lines ≤ row_lines tape order
+  pub few_gates : order.plan ≡ Lean → LeanRowFits order tape → gates ≤ 2 * row_gates tape
 
 -- These lines and gates are those of a plan that the order asks for, of a settled graph of the tape: an eager one within
 -- the graph's eager numbers; a pebbling within the numbers of the largest block that fits, which comes without `--plan`
--- only where the eager numbers do not fit; or the better of two plans of its lean graph, or the best of those and of what
--- planners found, of few Toffoli gates.
+-- only where the eager numbers do not fit; or a plan of its lean graph, or the best of that one and of what planners
+-- found, of few Toffoli gates.
 pub record IsPlannedAs (order : OrderView) (tape : TapeView) (roles : Roles)
     (gates : List GateView) : Type 0 where
   pub graph : SettledView
@@ -50,6 +67,7 @@ pub record IsPlannedAs (order : OrderView) (tape : TapeView) (roles : Roles)
   pub gates_are : gates ≡ laid.circuit.gates
   pub chosen : IsChosen order.plan graph (budget_of order) laid
   pub few_toffoli_gates : HasFewToffoliGates order tape gates
+  pub lean_size : HasLeanSize order tape (lines_in roles) (length gates)
 
 -- The text is well formed, and that of one program, which leaves this tape and whose claims hold on all inputs, within
 -- the nodes; the gates are a clean circuit for it, from what the order's plan allows on the output lines, with its

@@ -10,14 +10,15 @@ use Rattle.circuit_plans.specs.declared.roles.Start.{Start}
 use Rattle.circuit_plans.specs.declared.roles.Start.TheVariants.{Any, Zero}
 use Rattle.circuit_plans.specs.Plans.{AddsOutputs, BudgetView, PlannedView, LaidView, roles_of}
 use Rattle.gate_split.specs.Split.{IsSplitList}
+use Rattle.held_nodes.specs.Held.{first_work}
 use Rattle.held_nodes.specs.Moves.{roles_of_plan}
 use Rattle.mct_circuit.specs.Gates.{AreNarrow, GateView}
 use Rattle.eager_cleanup.specs.Eager.{ports_of}
 use Rattle.held_nodes.specs.Plans.{HasPortLines}
 use Rattle.circuit_plans.specs.declared.choice.How.TheVariants.{Lean}
 use Rattle.plan_choice.specs.Choices.{IsChoiceFault, IsLaidFor, IsLean, NoLargerFits}
-use Rattle.dependency_graph.specs.Graphs.{ands_in}
-use Rattle.plan_choice.specs.Lean.{CoveringFits, IsAsCompact, area, toffoli}
+use Rattle.plan_choice.specs.Lean.{CoveringFits, IsAsCompact, IsCovering, area, toffoli}
+use Rattle.ready_cleanup.specs.Ready.{ready_gates}
 use Rattle.sum_graph.specs.Graphs.{SumGraphView}
 
 -- whether there is no plan though memory was not wanting
@@ -76,11 +77,29 @@ pub record IsLaidNarrow (start : Start) (s : SettledView) (b : BudgetView) (laid
   pub for_graph : IsLaidFor start s b laid
   pub narrow : AreNarrow laid.circuit.gates
 
--- Where one block of all nodes fits, it has at most two flips under two lines for each AND.
-pub record IsLaidLean (s : SettledView) (l : SumGraphView) (b : BudgetView) (laid : LaidView)
+-- it has at most a line for each input, output, node and borrowed bit
+pub record IsLaidEach (s : SettledView) (l : SumGraphView) (b : BudgetView) (laid : LaidView)
     : Type 0 where
   pub plan : IsLaidNarrow Any s b laid
-  pub few : CoveringFits l b → toffoli laid ≤ 2 * ands_in s.nodes
+  pub lines : laid.circuit.lines ≤ first_work l + length l.nodes + b.borrow
+
+-- it has no more gates than four toggles of each node and one of each output weigh
+pub record IsLaidReady (s : SettledView) (l : SumGraphView) (b : BudgetView) (laid : LaidView)
+    : Type 0 where
+  pub each : IsLaidEach s l b laid
+  pub gates : length laid.circuit.gates ≤ ready_gates l
+
+-- where one block has all nodes, it has few Toffoli gates and gates
+pub record IsLaidBlock (s : SettledView) (l : SumGraphView) (block : ℕ) (b : BudgetView)
+    (laid : LaidView) : Type 0 where
+  pub each : IsLaidEach s l b laid
+  pub covering : length l.nodes ≤ block → IsCovering l laid
+
+-- where one block of all nodes fits, it has few Toffoli gates and gates
+pub record IsLaidLean (s : SettledView) (l : SumGraphView) (b : BudgetView) (laid : LaidView)
+    : Type 0 where
+  pub each : IsLaidEach s l b laid
+  pub covering : CoveringFits l b → IsCovering l laid
 
 -- ---- the better of two plans
 

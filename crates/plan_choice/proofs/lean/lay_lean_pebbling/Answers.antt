@@ -8,14 +8,14 @@ halving-init c =
     let some : 1 ≤ c.next_power_of_two-block.result = search rules in
     lean_begun c.args.graph.now c.args.lean.now c.args.budget.now c.next_power_of_two-block.result c.lay_lean_blocks-tried.result some
     (rw c.nodes.ensures.nodes at next.lower_bound) c.lay_lean_blocks-tried.ensures.ok
-    c.lay_lean_blocks-tried.ensures.products c.lay_lean_blocks-tried.ensures.refused
+    c.lay_lean_blocks-tried.ensures.refused
 
 pub halving-preserved : goal.halving-preserved
 halving-preserved c =
     let some : 1 ≤ c.halving.block / 2 = search rules in
     lean_halved c.args.graph.now c.args.lean.now c.args.budget.now c.halving.block _ c.halving.tried c.lay_lean_blocks-tried-in-halving.result
     c.halving.invariant (sym c.is_refused.ensures ∙ c.if-is_refused.true) some c.lay_lean_blocks-tried-in-halving.ensures.ok
-    c.lay_lean_blocks-tried-in-halving.ensures.products c.lay_lean_blocks-tried-in-halving.ensures.refused
+    c.lay_lean_blocks-tried-in-halving.ensures.refused
 
 pub returns-after-halving-clause-refused : goal.returns-after-halving-clause-refused
 returns-after-halving-clause-refused c =
