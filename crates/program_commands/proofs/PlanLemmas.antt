@@ -77,6 +77,7 @@ module _ (order : OrderView) (laid : LaidView) (tape : TapeView) (s : SettledVie
     m = (tapes_have_measures tape).measures
 
     are : AreMeasuresOf tape m
+    unfolding m
     are = (tapes_have_measures tape).are
 
     within : IsWithin s m
