@@ -1,5 +1,5 @@
 -- The best of several plans of a lean graph.
-use Rattle.std.proofs.Common.{◌≡◌, ◌≢◌, ℕ, ◌*◌, ◌<◌, ◌≤◌, Bool, true, Ok, Err, refl, sym, subst, inl, inr, arith}
+use Rattle.std.proofs.Common.{◌≡◌, ◌≢◌, ℕ, ◌<◌, ◌≤◌, true, Ok, Err, refl, sym, subst, inl, inr, arith}
 use Rattle.std.specs.Prelude.{◌==◌, if◌then◌else◌, nat_lt, IfErr, IfOk, Result}
 use Rattle.std.proofs.lemmas.Bool.{cases_Bool, eqb-true, ltb-true}
 use Rattle.std.proofs.lemmas.Result.{IfOk-weaker}
@@ -11,7 +11,6 @@ use Rattle.circuit_plans.specs.Plans.{BudgetView, LaidView}
 use Rattle.claim_check.specs.Budgets.{Measures}
 use Rattle.claim_check.specs.Measures.{IsWithin}
 use Rattle.claim_check.specs.Settled.{SettledView}
-use Rattle.dependency_graph.specs.Graphs.{ands_in}
 use Rattle.eager_cleanup.specs.Eager.{ports_of}
 use Rattle.held_nodes.specs.Plans.{HasPortLines}
 use Rattle.plan_choice.specs.Choices.{IsChoiceFault, IsCompact, IsLaidFor, IsLean, LeanFits}

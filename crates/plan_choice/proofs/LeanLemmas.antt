@@ -1,9 +1,9 @@
 -- Plans of a lean graph, laid.
-use Rattle.std.proofs.Common.{◌≡◌, ℕ, ◌+◌, ◌*◌, ◌<◌, ◌≤◌, ◌⊎◌, Bool, false, true, List, [], ◌∷◌, length, Ok, Err}
-use Rattle.std.proofs.Common.{refl, ap, subst, sym, ◌∙◌, inl, inr, arith}
+use Rattle.std.proofs.Common.{◌≡◌, ℕ, ◌+◌, ◌*◌, ◌≤◌, Bool, false, true, List, [], ◌∷◌, length, Ok, Err}
+use Rattle.std.proofs.Common.{ap, subst, sym, ◌∙◌, inl, inr, arith}
 use Rattle.std.specs.List.{AllByRecursion}
-use Rattle.std.specs.Prelude.{◌==◌, if◌then◌else◌, nat_lt, sum_by, IfErr, IfOk, Result}
-use Rattle.std.proofs.lemmas.Bool.{cases_Bool, cases_lt, eqb-false, eqb-true, ltb-false, ltb-true}
+use Rattle.std.specs.Prelude.{◌==◌, if◌then◌else◌, sum_by, IfErr, IfOk, Result}
+use Rattle.std.proofs.lemmas.Bool.{cases_Bool, eqb-true, ltb-false, ltb-true}
 use Rattle.std.proofs.lemmas.List.Sums.{sum_by-cons}
 use Rattle.std.proofs.lemmas.Result.{IfOk-weaker}
 use Rattle.bennett_pebbling.specs.Pebbling as sums
@@ -15,10 +15,9 @@ use Rattle.circuit_plans.specs.declared.plan.PlanFault.TheVariants.{Lines, Gates
 use Rattle.circuit_plans.specs.declared.roles.Start.{Start}
 use Rattle.circuit_plans.specs.declared.roles.Start.TheVariants.{Any}
 use Rattle.circuit_plans.specs.Plans.{BudgetView, LaidView, PlannedView}
-use Rattle.claim_check.specs.Budgets.{Measures, lean_gates, lean_lines}
+use Rattle.claim_check.specs.Budgets.{Measures, lean_gates}
 use Rattle.claim_check.specs.Measures.{IsWithin}
 use Rattle.claim_check.specs.Settled.{SettledView, settled_outputs}
-use Rattle.dependency_graph.specs.Graphs.{ands_in}
 use Rattle.eager_cleanup.specs.Eager.{ports_of}
 use Rattle.held_nodes.specs.Held.{first_work}
 use Rattle.held_nodes.specs.Moves.{roles_of_plan}

@@ -1,5 +1,5 @@
 -- What a plan that was tried says: of its split, of one block, and of all blocks down to one.
-use Rattle.std.specs.Prelude.{◌≡◌, ◌≢◌, IfErr, IfOk, ℕ, ◌+◌, ◌*◌, ◌<◌, ◌≤◌, ◌==◌, nat_lt, if◌then◌else◌, Bool, true, false, ⊤, Result, Ok, Err, List, length, sum_by}
+use Rattle.std.specs.Prelude.{◌≡◌, ◌≢◌, IfErr, IfOk, ℕ, ◌+◌, ◌<◌, ◌≤◌, ◌==◌, nat_lt, if◌then◌else◌, Bool, true, false, ⊤, Result, Ok, Err, List, length, sum_by}
 use Rattle.bennett_pebbling.specs.Blocks.{AreWithinBlock}
 use Rattle.plan_choice.specs.Blocks.{IsPebblingFault, extent_of}
 use Rattle.claim_check.specs.Settled.{SettledView}
