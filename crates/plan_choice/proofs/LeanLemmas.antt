@@ -52,7 +52,8 @@ module _ {start : Start} {s : SettledView} {l : SumGraphView} {b : BudgetView} {
       }
 
 -- what is known of its size
-module _ {s : SettledView} {l : SumGraphView} {b : BudgetView} {p : PlannedView} (lean : IsLeanOf s l) (is : IsNarrowPlan Any l b p) (each : sums.HasLineEach l p)
+module _ {s : SettledView} {l : SumGraphView} {b : BudgetView} {p : PlannedView} (lean : IsLeanOf s l) (is : IsNarrowPlan Any l b p)
+    (each : sums.HasLineEach l p)
   where
     laid_each : (laid : LaidView) → IsLaidAsIs p b laid → IsLaidEach s l b laid
     laid_each laid kept = record { plan = laid_lean lean is laid kept; lines = omega (arith, kept.laid_of.size, each.few) }

@@ -138,8 +138,8 @@ module _ (s : SumGraphView) (b : BudgetView) (count : ℕ) (f : ForwardView) (is
   -- ---- refused
 
   -- a toggle of a node that can still be paid for
-  refused : (k : ℕ) (e : PlanFault) → k < length s.nodes → all_paid toggle_weight s f.lines count + price_at toggle_weight s k ≤ 2 * sum_by toggle_weight s.nodes
-      → IsToggleFault f k e → IsReadyFault s b e
+  refused : (k : ℕ) (e : PlanFault) → k < length s.nodes
+      → all_paid toggle_weight s f.lines count + price_at toggle_weight s k ≤ 2 * sum_by toggle_weight s.nodes → IsToggleFault f k e → IsReadyFault s b e
   refused k (Lines need) low paid fault =
       let n = length f.graph.nodes in
       let all : held_count f.lines ≡ counted (is_held f.lines) n = counted-held f.lines ∙ ap (counted (is_held f.lines)) is.forward.nodes in
@@ -171,7 +171,8 @@ module _ (s : SumGraphView) (b : BudgetView) (count : ℕ) (f : ForwardView) (is
   finish_refused Gates inside fault =
       let front = prices-longer toggle_weight s 0 count (length s.nodes) inside in
       let outputs = ap (λ (x : SumGraphView). sum_by toggle_weight x.outputs) is.graph in
-      omega (arith, fault, gates_are, outputs, is.costs weight_of toggle_weight weight_price, all_most toggle_weight s f.lines count, front, prices_all toggle_weight s)
+      let paid = is.costs weight_of toggle_weight weight_price in
+      omega (arith, fault, gates_are, outputs, paid, all_most toggle_weight s f.lines count, front, prices_all toggle_weight s)
   finish_refused Memory inside fault = swept_room
 
   -- ---- a toggle
