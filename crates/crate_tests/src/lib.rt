@@ -32,4 +32,6 @@ mod revs_lexer_tests;
 #[cfg(test)]
 mod sum_graph_tests;
 #[cfg(test)]
+mod sum_verify_tests;
+#[cfg(test)]
 mod text_places_tests;
