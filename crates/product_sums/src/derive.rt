@@ -1,14 +1,12 @@
 // Products that are sums of known ones.
 ghost use Rattle.std.specs.Prelude.{IfOk, IfSome};
-ghost use Rattle.linear_forms.specs.Pairs.{IsSumOf};
 ghost use Rattle.product_sums.specs.inside.Deriving.{Follows, IsCollected, IsPairOf};
 
 use crate::ProductsFault;
 use crate::budget::Budget;
 use crate::known::Known;
-use linear_forms::{Basis, Factor, Form, Pair, linear_sum};
+use linear_forms::{Basis, Form, Pair, linear_sum};
 use revc_base::Memory;
-use std::alloc::Global;
 
 // The most products of a derivation, so that all factors fit a basis.
 const MOST_TERMS: usize = 31;

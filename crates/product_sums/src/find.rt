@@ -13,7 +13,6 @@ use crate::marks::Mark;
 use crate::search::search;
 use linear_forms::Form;
 use revc_base::Memory;
-use std::alloc::Global;
 
 // The steps of a search.
 const SEARCH_STEPS: usize = 16_384;

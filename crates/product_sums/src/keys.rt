@@ -1,7 +1,6 @@
 // Keys under which products are found that have something in common.
 use linear_forms::{Fingerprint, Form};
 use revc_base::Memory;
-use std::alloc::Global;
 
 // A form has a key for each of its atoms where they are at most so many.
 const FEW_ATOMS: u32 = 4;

@@ -3,7 +3,6 @@ ghost use Rattle.std.specs.Prelude.{◌≡◌, IfOk};
 
 use linear_forms::Form;
 use revc_base::Memory;
-use std::alloc::Global;
 
 // Two factors, and the sum that is their product.
 #[derive(Drop)]
