@@ -1,8 +1,12 @@
-use Rattle.std.proofs.Common.{length, subst}
+use Rattle.std.proofs.Common.{◌≡◌, List, length, drop, subst, sym, ◌∙◌, arith}
+use Rattle.std.proofs.lemmas.List.{take-append-le, take_all}
+use Rattle.linear_forms.specs.Forms.{FormView}
 use Rattle.product_sums.specs.Products.{Extends, ProductsView}
 use Rattle.claim_check.specs.Settled.{settled_outputs}
+use Rattle.mct_circuit.specs.Gates.{line_map}
 use Rattle.circuit_verify.specs.Compared.{comparison}
-use Rattle.circuit_verify.specs.Comparisons.{input_bits}
+use Rattle.circuit_verify.specs.Comparisons.{input_bits, start_on}
+use Rattle.sum_verify.specs.inside.Forms.{AreFormsOf}
 use Rattle.sum_verify.proofs.FormLemmas.{forms_later}
 use Rattle.sum_verify.proofs.StartLemmas.{starts_stand}
 use Rattle.sum_verify.proofs.verifying.compare.Goals as goal
@@ -27,3 +31,14 @@ judge-requires-clause-outputs c =
     rw c.deref-2.ensures.value
     (forms_later q c.output_forms.new.products c.walk.new.products (length v.graph.outputs) c.in_ok-outputs.outputs.items
     (λ bits. settled_outputs v.graph (input_bits q bits)) more c.in_ok-outputs.ensures.outputs)
+
+pub judge-requires-clause-lines : goal.judge-requires-clause-lines
+judge-requires-clause-lines c =
+    let v = c.args.compared.now in
+    let q = comparison v in
+    let now = c.walk.new.lines in
+    let count = c.in_ok-lines.lines.len in
+    let size : count ≡ length now = omega (arith, c.walk.auto.lines, c.deref_mut.ensures.len) in
+    let whole = take-append-le count now (drop (length now) c.in_ok-lines.lines.items) (omega (arith, size)) ∙ take_all count now (omega (arith, size)) in
+    subst (λ (fs : List FormView). AreFormsOf q c.walk.new.products v.circuit.lines fs (λ bits. line_map v.circuit.gates (start_on q bits)))
+    (sym {A = List FormView} (c.deref-3.ensures.value ∙ whole)) c.in_ok-walk.ensures.ends
