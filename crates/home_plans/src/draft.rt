@@ -23,7 +23,7 @@ pub struct Size {
 }
 
 // The most looks at nodes that are taken for a draft.
-const MOST_LOOKS: u64 = 20_000_000;
+const MOST_LOOKS: u64 = 5_000_000;
 
 /// The forward part of a plan, seen by its toggles: nodes are held on lines and cleared again. A node
 /// with a home is held there and stays. The others take the least free work line.

@@ -7,11 +7,13 @@ use crate::draft::{Draft, Drafted};
 use crate::homes::Homes;
 use crate::orders::{lazy, ready, segments};
 use crate::pebbling::pebbled;
-use crate::script::steps_of;
+use crate::script::moves_of;
 use crate::table::Table;
 use circuit_plans::{Budget, MOST_LINES, PlanFault, Planned};
-use line_states::follow;
+use line_moves::{script, shortened};
+use line_states::{Step, follow};
 use revc_base::Memory;
+use span_rows::Stop;
 use std::alloc::Global;
 use sum_graph::SumGraph;
 
@@ -34,8 +36,26 @@ pub fn plan(alloc: Global, graph: &SumGraph, budget: &Budget) -> Result<Option<P
     let Some(draft) = best(alloc, &table, budget)? else {
         return Ok(None);
     };
-    let steps = steps_of(alloc, graph, &homes, &draft)?;
-    follow(alloc, graph, budget, &steps)
+    let lines = table.ports().saturating_add(draft.work());
+    match steps(alloc, graph, &homes, &draft, lines, budget) {
+        Ok(steps) => follow(alloc, graph, budget, &steps),
+        Err(Stop::Lost) => Ok(None),
+        Err(Stop::Memory) => Err(Memory),
+    }
+}
+
+// The script of the plan with a forward part, on so many lines.
+fn steps(
+    alloc: Global,
+    graph: &SumGraph,
+    homes: &Homes,
+    draft: &Draft<'_>,
+    lines: u32,
+    budget: &Budget,
+) -> Result<Vec<Step>, Stop> {
+    let moves = moves_of(alloc, graph, homes, draft, lines)?;
+    let moves = shortened(alloc, moves, lines)?;
+    script(alloc, draft.work(), &moves, budget.gates())
 }
 
 fn best<'t>(alloc: Global, table: &'t Table, budget: &Budget) -> Result<Option<Draft<'t>>, Memory> {

@@ -1,26 +1,30 @@
-// The steps of a plan.
+// The moves of a plan.
 use crate::draft::{Draft, Move};
 use crate::homes::Homes;
 use bit_sums::{Product, Sum};
 use dependency_graph::Base;
-use line_states::{Gather, Pair, Step};
-use revc_base::Memory;
+use line_moves::{FactorLines, Moves, Writing};
+use span_rows::Stop;
 use std::alloc::Global;
 use sum_graph::SumGraph;
 
-// The line of a node that is not held: the machine has none such.
+// The line of a node that is not held: there is none such.
 const NOWHERE: u32 = u32::MAX;
 
-/// The steps of the plan with this forward part: its work lines and its toggles; the outputs whose
+// The most bits that are added to sets of bits, as each bit of a sum is to those before it.
+const MOST_WORK: u64 = 400_000_000;
+
+/// The moves of the plan with this forward part, on so many lines: its toggles; the outputs whose
 /// lines are no home; and the toggles from the last to the first, where in place of one at home the
 /// output is added.
-pub fn steps_of(
+pub fn moves_of(
     alloc: Global,
     graph: &SumGraph,
     homes: &Homes,
     draft: &Draft<'_>,
-) -> Result<Vec<Step>, Memory> {
-    let mut script = Script::begun(alloc, graph, draft.work())?;
+    lines: u32,
+) -> Result<Moves, Stop> {
+    let mut script = Script::begun(alloc, graph, lines)?;
     for step in draft.moves() {
         script.turn(alloc, graph, *step)?;
     }
@@ -35,34 +39,32 @@ pub fn steps_of(
             None => script.turn(alloc, graph, *step)?,
         }
     }
-    Ok(script.into_steps())
+    Ok(script.into_moves())
 }
 
-// Steps in the making, and the line on which each node stands.
+// Moves in the making, and the line on which each node stands.
 #[derive(Drop)]
 struct Script {
-    steps: Vec<Step>,
+    writing: Writing,
     lines: Vec<u32>,
+    work: u64,
 }
 
 impl Script {
-    fn begun(alloc: Global, graph: &SumGraph, work: u32) -> Result<Script, Memory> {
-        let mut steps = Vec::new(alloc);
-        for _line in 0..work {
-            steps.push(Step::Line)?;
-        }
+    fn begun(alloc: Global, graph: &SumGraph, lines: u32) -> Result<Script, Stop> {
         Ok(Script {
-            steps,
+            writing: Writing::new(alloc, lines)?,
             lines: vec![in alloc; NOWHERE; graph.nodes() as usize]?,
+            work: 0,
         })
     }
 
-    fn into_steps(self) -> Vec<Step> {
-        self.steps
+    fn into_moves(self) -> Moves {
+        self.writing.moves
     }
 
     // Toggles a node, which then stands on the line, or not any more.
-    fn turn(&mut self, alloc: Global, graph: &SumGraph, step: Move) -> Result<(), Memory> {
+    fn turn(&mut self, alloc: Global, graph: &SumGraph, step: Move) -> Result<(), Stop> {
         if step.node >= graph.nodes() {
             return Ok(());
         }
@@ -75,7 +77,7 @@ impl Script {
     }
 
     // Adds an output, which stands behind the nodes, to its line.
-    fn add_output(&mut self, alloc: Global, graph: &SumGraph, output: u32) -> Result<(), Memory> {
+    fn add_output(&mut self, alloc: Global, graph: &SumGraph, output: u32) -> Result<(), Stop> {
         let line = graph.inputs().saturating_add(output);
         let node = graph.nodes().saturating_add(output);
         match graph.outputs().get(output as usize) {
@@ -85,43 +87,39 @@ impl Script {
     }
 
     // Adds a sum to a line, on which one of its bits may stand.
-    fn add(&mut self, alloc: Global, sum: &Sum, node: u32, onto: u32) -> Result<(), Memory> {
+    fn add(&mut self, alloc: Global, sum: &Sum, node: u32, onto: u32) -> Result<(), Stop> {
+        let bits = sum.bits().len() as u64;
+        self.work = self.work.saturating_add(bits.saturating_mul(bits));
+        if self.work > MOST_WORK {
+            return Err(Stop::Lost);
+        }
         for base in sum.bits() {
             let from = self.line_of(*base);
             if from != onto {
-                self.steps.push(Step::Copy { from, to: onto })?;
+                self.writing.moves.copy(from, onto)?;
             }
         }
-        let mut pairs = Vec::new(alloc);
+        let mut products = Vec::with_capacity(alloc, sum.products().len())?;
         for product in sum.products() {
-            pairs.push(self.pair_of(alloc, product)?)?;
+            products.push(self.lines_of(alloc, product)?)?;
         }
-        self.steps.push(Step::Toggle { node, onto, pairs })?;
-        Ok(())
+        self.writing.toggle(node, onto, products, &[])
     }
 
-    fn pair_of(&self, alloc: Global, product: &Product) -> Result<Pair, Memory> {
-        let first = self.gather_of(alloc, product.first(), product.second())?;
-        let second = self.gather_of(alloc, product.second(), product.first())?;
-        Ok(Pair { first, second })
+    fn lines_of(&self, alloc: Global, product: &Product) -> Result<FactorLines, Stop> {
+        let first = self.factor_lines(alloc, product.first())?;
+        let second = self.factor_lines(alloc, product.second())?;
+        Ok(FactorLines { first, second })
     }
 
-    // A factor, gathered on the line of its last bit that the other one lacks.
-    fn gather_of(&self, alloc: Global, bits: &[Base], other: &[Base]) -> Result<Gather, Memory> {
-        let mut on = NOWHERE;
+    // The lines of a factor's bits, rising.
+    fn factor_lines(&self, alloc: Global, bits: &[Base]) -> Result<Vec<u32>, Stop> {
+        let mut lines = Vec::with_capacity(alloc, bits.len())?;
         for base in bits {
-            if !other.contains(base) {
-                on = self.line_of(*base);
-            }
+            lines.push(self.line_of(*base))?;
         }
-        let mut others = Vec::new(alloc);
-        for base in bits {
-            let line = self.line_of(*base);
-            if line != on {
-                others.push(line)?;
-            }
-        }
-        Ok(Gather { on, others })
+        lines.sort()?;
+        Ok(lines)
     }
 
     fn line_of(&self, base: Base) -> u32 {

@@ -4,13 +4,9 @@
 //! clean.
 #![tactic(auto)]
 
-mod cancelling;
-mod factors;
 mod lines;
-mod moves;
 mod planner;
 mod replaying;
-mod scripts;
 mod searching;
 
 pub use planner::plan;

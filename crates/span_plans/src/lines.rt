@@ -1,25 +1,7 @@
-// Sets of lines, as rising lists, and which lines are free.
+// Which lines are free, and the lines of rows.
 use span_rows::{Stop, at};
 use std::alloc::Global;
 use std::collections::BTreeSet;
-
-/// The lines of `some` that are not among `others`; both rise.
-pub fn without(alloc: Global, some: &[u32], others: &[u32]) -> Result<Vec<u32>, Stop> {
-    let mut rest = Vec::new(alloc);
-    for line in some {
-        if others.binary_search(line).is_err() {
-            rest.push(*line)?;
-        }
-    }
-    Ok(rest)
-}
-
-/// How many of these lines are among `others`, which rise.
-pub fn common(some: &[u32], others: &[u32]) -> usize {
-    some.iter()
-        .filter(|line| others.binary_search(*line).is_ok())
-        .count()
-}
 
 /// Work lines: those that are free, and how many there are.
 #[derive(Drop)]

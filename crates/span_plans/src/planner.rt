@@ -3,11 +3,10 @@ ghost use Rattle.std.specs.Prelude.{IfOk, IfSome};
 ghost use Rattle.circuit_plans.specs.declared.roles.Start.TheVariants.{Zero};
 ghost use Rattle.held_nodes.specs.Plans.{IsNarrowPlan};
 
-use crate::cancelling::cancelled;
 use crate::replaying::{Replayed, replay_of};
-use crate::scripts::script;
 use crate::searching::best_sweep;
 use circuit_plans::{Budget, Planned};
+use line_moves::{script, shortened};
 use line_states::{Step, follow};
 use revc_base::Memory;
 use span_rows::{Stop, number};
@@ -36,7 +35,7 @@ fn steps(alloc: Global, graph: &SumGraph, budget: &Budget) -> Result<Vec<Step>, 
     let swept = best_sweep(alloc, &graph, taken, room)?;
     let limit = ports.saturating_add(room);
     let Replayed { moves, lines } = replay_of(alloc, &graph, &swept, limit)?;
-    let moves = cancelled(alloc, moves, lines)?;
+    let moves = shortened(alloc, moves, lines)?;
     let work = lines.saturating_sub(ports);
     script(alloc, work, &moves, budget.gates())
 }

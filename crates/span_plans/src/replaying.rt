@@ -1,7 +1,6 @@
 // The moves of what was swept: forward, the copies to the outputs, and back.
-use crate::factors::{FactorLines, Habits, untangle};
 use crate::lines::{RowLines, SavedLines, WorkLines};
-use crate::moves::{Gathering, Gatherings, Moves};
+use line_moves::{FactorLines, Moves, Writing};
 use span_rows::{Add, Row, Stop, number};
 use span_sweeps::{End, Event, SpanGraph, Swept, Toggle};
 use std::alloc::Global;
@@ -38,8 +37,7 @@ struct Replay<'g> {
     graph: &'g SpanGraph,
     rows: RowLines,
     work: WorkLines,
-    habits: Habits,
-    moves: Moves,
+    writing: Writing,
     once: Vec<Once>,
     block: Option<OpenBlock>,
 }
@@ -58,8 +56,7 @@ pub fn replay_of(
         graph,
         rows: RowLines::new(alloc, swept.rows)?,
         work: WorkLines::new(alloc, first, limit),
-        habits: Habits::new(alloc, limit)?,
-        moves: Moves::none(alloc),
+        writing: Writing::new(alloc, limit)?,
         once: Vec::new(alloc),
         block: None,
     };
@@ -67,13 +64,13 @@ pub fn replay_of(
     for event in &swept.events {
         replay.play(event)?;
     }
-    let ways = replay.moves.len();
+    let ways = replay.writing.moves.len();
     replay.copy_ends(swept)?;
     replay.play_back(ways)?;
     replay.name_outputs()?;
     Ok(Replayed {
         lines: replay.work.behind(),
-        moves: replay.moves,
+        moves: replay.writing.moves,
     })
 }
 
@@ -88,7 +85,7 @@ impl Replay<'_> {
         for (row, vector) in &swept.first {
             let (head, others) = vector.split_first().ok_or(Stop::Lost)?;
             self.rows.set(*row, *head)?;
-            self.moves.copies(others, *head)?;
+            self.writing.moves.copies(others, *head)?;
         }
         Ok(())
     }
@@ -125,7 +122,7 @@ impl Replay<'_> {
         }
         let onto = self.rows.line(row)?;
         self.add(&toggle.before)?;
-        let from = self.moves.len();
+        let from = self.writing.moves.len();
         self.toggle(toggle, onto, rest.is_none())?;
         if let Some(rest) = rest {
             let lines = self.rows.all(self.alloc, rest)?;
@@ -144,7 +141,7 @@ impl Replay<'_> {
 
     // A final node goes onto the lines of its outputs, once for all.
     fn play_final(&mut self, toggle: &Toggle) -> Result<(), Stop> {
-        let from = self.moves.len();
+        let from = self.writing.moves.len();
         let mut lines = Vec::new(self.alloc);
         for output in &self.graph.node(toggle.node)?.targets {
             lines.push(self.output_line(*output))?;
@@ -167,12 +164,12 @@ impl Replay<'_> {
     // A node goes onto the first line, and from there onto the others. That stays at the end of a
     // block.
     fn toggle_onto(&mut self, toggle: &Toggle, lines: &[u32]) -> Result<(), Stop> {
-        let from = self.moves.len();
+        let from = self.writing.moves.len();
         let (onto, others) = lines.split_first().ok_or(Stop::Lost)?;
         self.copy_to_all(*onto, others)?;
         self.toggle(toggle, *onto, false)?;
         self.copy_to_all(*onto, others)?;
-        let to = self.moves.len();
+        let to = self.writing.moves.len();
         if let Some(block) = &mut self.block {
             block.stay.push((from, to))?;
         }
@@ -181,7 +178,7 @@ impl Replay<'_> {
 
     fn copy_to_all(&mut self, from: u32, lines: &[u32]) -> Result<(), Stop> {
         for line in lines {
-            self.moves.copy(from, *line)?;
+            self.writing.moves.copy(from, *line)?;
         }
         Ok(())
     }
@@ -193,7 +190,7 @@ impl Replay<'_> {
             self.rows.set(*row, line)?;
         }
         self.block = Some(OpenBlock {
-            first: self.moves.len(),
+            first: self.writing.moves.len(),
             stay: Vec::new(self.alloc),
             lines: self.work.saved(self.alloc)?,
         });
@@ -203,10 +200,12 @@ impl Replay<'_> {
     // A block ends: its rows take sums of rows, and its moves are undone but for those that stay.
     fn close(&mut self, ends: &[End], written: &[(Row, u32)]) -> Result<(), Stop> {
         let OpenBlock { first, stay, lines } = self.block.take().ok_or(Stop::Lost)?;
-        let mut behind = self.moves.len();
+        let mut behind = self.writing.moves.len();
         for end in ends {
             let sources = self.rows.all(self.alloc, &end.rows)?;
-            self.moves.copies(&sources, self.rows.line(end.onto)?)?;
+            self.writing
+                .moves
+                .copies(&sources, self.rows.line(end.onto)?)?;
         }
         for part in written {
             let (row, place) = *part;
@@ -225,7 +224,7 @@ impl Replay<'_> {
     // Moves of a range once more, from the last to the first.
     fn undo(&mut self, from: usize, to: usize) -> Result<(), Stop> {
         for place in (from..to).rev() {
-            self.moves.again(place)?;
+            self.writing.moves.again(place)?;
         }
         Ok(())
     }
@@ -234,7 +233,7 @@ impl Replay<'_> {
     fn play_once(&mut self, from: usize, lines: Vec<u32>, onto: u32) -> Result<(), Stop> {
         self.once.push(Once {
             from,
-            to: self.moves.len(),
+            to: self.writing.moves.len(),
             lines,
             onto,
         })?;
@@ -244,7 +243,7 @@ impl Replay<'_> {
     fn add(&mut self, adds: &[Add]) -> Result<(), Stop> {
         for add in adds {
             let from = self.rows.line(add.from)?;
-            self.moves.copy(from, self.rows.line(add.to)?)?;
+            self.writing.moves.copy(from, self.rows.line(add.to)?)?;
         }
         Ok(())
     }
@@ -253,19 +252,13 @@ impl Replay<'_> {
     // (`leaves`).
     fn toggle(&mut self, toggle: &Toggle, onto: u32, leaves: bool) -> Result<(), Stop> {
         let name = self.graph.node(toggle.node)?.name;
-        let mut products = self.factor_lines(toggle)?;
-        if products.len() != 1 {
-            return self.toggle_all(name, onto, &mut products);
-        }
-        let own = if leaves {
+        let products = self.factor_lines(toggle)?;
+        let own = if leaves && products.len() == 1 {
             self.own_lines(toggle)?
         } else {
             Vec::new(self.alloc)
         };
-        for product in &products {
-            self.toggle_one(name, onto, product, &own)?;
-        }
-        Ok(())
+        self.writing.toggle(name, onto, products, &own)
     }
 
     // The lines of the rows that are new behind a toggle, and in no addition.
@@ -293,77 +286,12 @@ impl Replay<'_> {
         Ok(products)
     }
 
-    // A toggle of one product, whose factors are gathered by copies.
-    fn toggle_one(
-        &mut self,
-        name: u32,
-        onto: u32,
-        product: &FactorLines,
-        own: &[u32],
-    ) -> Result<(), Stop> {
-        let held = self.habits.held(self.alloc, product, own)?;
-        for (from, to) in &held.copies {
-            self.moves.copy(*from, *to)?;
-        }
-        let mut gatherings = Vec::new(self.alloc);
-        gatherings.push(Gatherings {
-            first: alone(self.alloc, held.first),
-            second: alone(self.alloc, held.second),
-        })?;
-        self.moves.toggle(name, onto, gatherings)?;
-        for (from, to) in held.copies.iter().rev() {
-            if !own.contains(to) {
-                self.moves.copy(*from, *to)?;
-            }
-        }
-        Ok(())
-    }
-
-    // A toggle of any number of products: those that have lines of their own are gathered by
-    // copies, and the others for the moment of their flips.
-    fn toggle_all(
-        &mut self,
-        name: u32,
-        onto: u32,
-        products: &mut Vec<FactorLines>,
-    ) -> Result<(), Stop> {
-        let mut copies = self.gather_apart(products)?;
-        copies.append(&mut untangle(self.alloc, products)?)?;
-        let mut gatherings = Vec::with_capacity(self.alloc, products.len())?;
-        for product in products.iter() {
-            gatherings.push(self.habits.gatherings(self.alloc, product)?)?;
-        }
-        for (from, to) in &copies {
-            self.moves.copy(*from, *to)?;
-        }
-        self.moves.toggle(name, onto, gatherings)?;
-        for (from, to) in copies.iter().rev() {
-            self.moves.copy(*from, *to)?;
-        }
-        Ok(())
-    }
-
-    // Gathers each product by copies whose factors come onto lines that no other product has; the
-    // products' lines become those behind the copies.
-    fn gather_apart(&mut self, products: &mut Vec<FactorLines>) -> Result<Vec<(u32, u32)>, Stop> {
-        let mut copies = Vec::new(self.alloc);
-        for k in 0..products.len() {
-            let product = products.get(k).ok_or(Stop::Lost)?;
-            let mut held = self.habits.held(self.alloc, product, &[])?;
-            if held.is_apart(products, k) {
-                *products.get_mut(k).ok_or(Stop::Lost)? = held.lines(self.alloc)?;
-                copies.append(&mut held.copies)?;
-            }
-        }
-        Ok(copies)
-    }
-
     // What the outputs without homes are the sums of.
     fn copy_ends(&mut self, swept: &Swept) -> Result<(), Stop> {
         for end in &swept.ends {
             let lines = self.rows.all(self.alloc, &end.rows)?;
             let onto = self.output_line(end.onto);
-            self.moves.copies(&lines, onto)?;
+            self.writing.moves.copies(&lines, onto)?;
         }
         Ok(())
     }
@@ -374,7 +302,7 @@ impl Replay<'_> {
         let all = std::mem::replace(&mut self.once, Vec::new(self.alloc));
         for once in all.iter().rev() {
             self.undo(once.to, behind)?;
-            self.moves.copies(&once.lines, once.onto)?;
+            self.writing.moves.copies(&once.lines, once.onto)?;
             behind = once.from;
         }
         self.undo(0, behind)
@@ -383,7 +311,7 @@ impl Replay<'_> {
     // A node without products takes the place of its bits on a line. That takes no gates.
     fn name(&mut self, place: u32, onto: u32) -> Result<(), Stop> {
         let name = self.graph.node(place)?.name;
-        self.moves.toggle(name, onto, Vec::new(self.alloc))
+        self.writing.moves.toggle(name, onto, Vec::new(self.alloc))
     }
 
     // Each output's line holds the bits of its sum, with nodes written out: these are written in
@@ -395,17 +323,9 @@ impl Replay<'_> {
                 self.name(*place, onto)?;
             }
             if let Some(name) = output.name {
-                self.moves.toggle(name, onto, Vec::new(self.alloc))?;
+                self.writing.moves.toggle(name, onto, Vec::new(self.alloc))?;
             }
         }
         Ok(())
-    }
-}
-
-// A factor that is all that a line holds.
-fn alone(alloc: Global, on: u32) -> Gathering {
-    Gathering {
-        on,
-        others: Vec::new(alloc),
     }
 }

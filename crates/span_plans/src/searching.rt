@@ -3,11 +3,15 @@ use span_rows::{Stop, at, number};
 use span_sweeps::{Event, Range, SpanGraph, Swept, chains, minima, schedule, sweep};
 use std::alloc::Global;
 
-/// The most symbols and events that all sweeps of a search take together.
-const MOST_WORK: u64 = 1_000_000_000;
+/// The most work that all sweeps of a search take together: the symbols that they add, and what
+/// their turns count.
+const MOST_WORK: u64 = 250_000_000;
+
+/// What a turn of a sweep counts beside its symbols.
+const TURN: u64 = 16;
 
 /// The most symbols that one sweep adds.
-const MOST_SWEPT: u64 = 200_000_000;
+const MOST_SWEPT: u64 = 50_000_000;
 
 /// How many additions the row of a node without products may take before it gets a line of its own.
 const MOST_ADDITIONS: usize = 4;
@@ -313,7 +317,8 @@ impl Search<'_> {
         let left = MOST_WORK.checked_sub(self.spent).ok_or(Stop::Lost)?;
         let most = left.min(MOST_SWEPT);
         let swept = sweep(self.alloc, self.graph, &turns, &rule.forced, most)?;
-        let work = swept.work.saturating_add(swept.events.len() as u64);
+        let passing = (turns.len() as u64).saturating_mul(TURN);
+        let work = swept.work.saturating_add(passing);
         self.spent = self.spent.saturating_add(work);
         Ok(swept)
     }

@@ -5,7 +5,10 @@ use span_rows::{Stop, at, at_mut};
 use std::alloc::Global;
 
 /// The most copies around the products of one toggle.
-const MOST_COPIES: usize = 1_000;
+const MOST_COPIES: usize = 100;
+
+/// Of how many lines a factor may be the sum if what was gathered before is to choose among them.
+const MOST_COMPARED: usize = 64;
 
 /// The lines of both factors of a product, rising.
 #[derive(Drop)]
@@ -68,7 +71,12 @@ impl Habits {
             if own.contains(line) {
                 return Ok(*line);
             }
-            best = best.max(Some((common(at(&self.gathered, *line)?, all), *line)));
+            let alike = if all.len() <= MOST_COMPARED {
+                common(at(&self.gathered, *line)?, all)
+            } else {
+                0
+            };
+            best = best.max(Some((alike, *line)));
         }
         let (_, line) = best.ok_or(Stop::Lost)?;
         Ok(line)
