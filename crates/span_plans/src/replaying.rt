@@ -68,9 +68,11 @@ pub fn replay_of(
     replay.copy_ends(swept)?;
     replay.play_back(ways)?;
     replay.name_outputs()?;
+    let lines = replay.work.behind();
+    let writing = replay.writing;
     Ok(Replayed {
-        lines: replay.work.behind(),
-        moves: replay.writing.moves,
+        moves: writing.moves,
+        lines,
     })
 }
 
