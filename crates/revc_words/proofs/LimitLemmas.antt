@@ -9,8 +9,10 @@ use Rattle.program_gen.specs.declared.adder.TheConstants.{MOST_BITS}
 use Rattle.revc_words.specs.declared.limits.TheConstants.{MOST_NODES, USUAL_LINES, USUAL_GATES, USUAL_NODES}
 use Rattle.revc_words.specs.declared.commands.Positional.{Positional}
 use Rattle.revc_words.specs.declared.commands.Positional.TheVariants.{Nothing, Word, Words, Number, KindAndNumber}
-use Rattle.revc_words.specs.Commands.{takes_of}
-use Rattle.revc_words.specs.Words.{HasFactor, IsNumberIn, Setting, Taken, TakesWords, HasNumber, OrdersAreWithinLimits, taken_of, value_of}
+use Rattle.revc_words.specs.declared.commands.Command.{Command}
+use Rattle.revc_words.specs.declared.commands.Command.TheVariants.{Verify}
+use Rattle.revc_words.specs.Commands.{factor_option, takes_of}
+use Rattle.revc_words.specs.Words.{HasFactor, IsBy, IsNumberIn, Setting, Taken, TakesWords, HasNumber, OrdersAreWithinLimits, taken_of, value_of}
 
 within : (least most usual n : ℕ) (value : Option (List ℕ)) → least ≤ usual → usual ≤ most
     → MatchOption value (n ≡ usual) (λ word. IsNumberIn least most word n) → (least ≤ n) × (n ≤ most)
@@ -53,6 +55,13 @@ some_factor : (by : ℕ) (factor : Option (List ℕ)) → HasFactor Mul factor �
 some_factor by None some is = absurd (false≢true some)
 some_factor by (Some word) some is = is.least_is
 
+-- a command that takes programs that multiply has its factor by `--by`
+asked_factor : (command : Command) (given : List Setting) (plain : List (List ℕ)) (taken : Taken) (by : ℕ)
+    → TakesWords (takes_of command) given plain taken → IsBy command given by → taken.kind ≡ Mul → 1 ≤ by
+asked_factor Verify given plain taken by is own e = absurd (no_product taken.kind is.1.no_kind e)
+asked_factor command given plain taken by is own e =
+    some_factor by (value_of (codes "by") given) (given_factor (takes_of command) given plain taken is e) own
+
 small_factor : (by : ℕ) (factor : Option (List ℕ)) → MatchOption factor (by ≡ 0) (λ word. IsNumberIn 1 MOST_FACTOR word by) → by ≤ MOST_FACTOR
 small_factor by None is = omega (arith, is)
 small_factor by (Some word) is = is.most_is
@@ -65,8 +74,6 @@ orders_are_within_limits words order is = record {
   nodes = (within 1 MOST_NODES USUAL_NODES order.nodes (value_of (codes "nodes") is.given) (omega arith) (omega arith) is.nodes).0;
   few_bits = few_bits (takes_of order.command) is.given is.plain (taken_of order) is.takes;
   some_bits = some_bits (takes_of order.command) is.given is.plain (taken_of order) is.takes;
-  some_factor = λ multiplies.
-      let given = given_factor (takes_of order.command) is.given is.plain (taken_of order) is.takes multiplies in
-      some_factor order.by (value_of (codes "by") is.given) given is.by;
-  small_factor = small_factor order.by (value_of (codes "by") is.given) is.by;
+  some_factor = λ multiplies. asked_factor order.command is.given is.plain (taken_of order) order.by is.takes is.by multiplies;
+  small_factor = small_factor order.by (value_of (factor_option order.command) is.given) is.by;
 }

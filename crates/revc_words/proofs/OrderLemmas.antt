@@ -22,20 +22,21 @@ use Rattle.revc_words.specs.declared.fault.WordsFault.{WordsFault}
 use Rattle.revc_words.specs.declared.fault.WordsFault.TheVariants as faults
 use Rattle.revc_words.specs.declared.order.Order.{Order}
 use Rattle.revc_words.specs.declared.commands.Command.{Command}
-use Rattle.revc_words.specs.declared.commands.Command.TheVariants.{Compile}
+use Rattle.revc_words.specs.declared.commands.Command.TheVariants.{Compile, Verify}
 use Rattle.revc_words.specs.declared.commands.TheConstants.Command.{ALL}
 use Rattle.revc_words.specs.declared.commands.Positional.{Positional}
 use Rattle.revc_words.specs.declared.commands.Positional.TheVariants.{Nothing, Word, Words, Number, KindAndNumber}
-use Rattle.revc_words.specs.Commands.{name_of, options_of, takes_of}
+use Rattle.revc_words.specs.Commands.{factor_option, name_of, options_of, takes_of, way_option}
 use Rattle.revc_words.specs.declared.order.Format.TheVariants.{Real, Qasm}
 use Rattle.revc_words.specs.declared.order.Values.{Values}
-use Rattle.revc_words.specs.Words.{order_of, order_with, OrderView, IsOrder, HasNoOrder, HasFactor, IsBy, IsNumberIn, OneOrder, Taken, TakesWords}
+use Rattle.revc_words.specs.declared.order.Way.{Way}
+use Rattle.revc_words.specs.Words.{order_of, order_with, OrderView, IsOrder, HasNoOrder, HasFactor, IsBy, IsWay, IsNumberIn, OneOrder, Taken, TakesWords}
 use Rattle.revc_words.specs.Words.{TakesKind, TakesNumber, Setting, Reads, nothing_left, all_behind, kind_word, taken_of}
 use Rattle.revc_words.specs.Words.{joined, parted, positional, IsOneOf, first_word, is_option, value_of, IsGivenOnce}
 use Rattle.revc_words.specs.inside.Parsing.{Texts, app_for, bits_for, command_named, kind_for, kind_of, number_for, number_of, number_word, order_by, order_for}
 use Rattle.revc_words.specs.inside.Parsing.{order_of_texts, parsed, takes_any, takes_count, takes_factor, texts_by, texts_in, value_or, values_of}
-use Rattle.revc_words.specs.inside.Parsing.{with_factor}
-use Rattle.revc_words.proofs.ValueLemmas.{Rule, plan_rule, lines_rule, gates_rule, borrow_rule, nodes_rule, start_rule, format_rule, by_rule, write_rule}
+use Rattle.revc_words.specs.inside.Parsing.{takes_kind, with_factor}
+use Rattle.revc_words.proofs.ValueLemmas.{Rule, plan_rule, lines_rule, gates_rule, borrow_rule, nodes_rule, start_rule, way_rule, format_rule, by_rule, write_rule}
 use Rattle.revc_words.proofs.ValueLemmas.{number_says, number_found, kind_named, kind_says, right, kept, text_is_no_option}
 use Rattle.revc_words.proofs.WalkLemmas.{by_test, is_one_of, filled_app, run, clap_says, AreTexts}
 use Rattle.revc_words.proofs.SaidLemmas.{Said, said, read, reached, parsed as ends, Fits, AreNew, AreOnce, AreValues, IsNever}
@@ -195,7 +196,7 @@ factor_gives : (by : ℕ) (factor : Option (List ℕ)) (kind : Kind) → IsRight
 factor_gives by None kind is has = ap (λ t. factor_by t kind) ((Decides-eqb by 0).1 is) ∙ no_factor_needed kind has
 factor_gives by (Some word) kind is has = ap (λ t. factor_by t kind) (is_above by is.least_is) ∙ factor_needed word kind has
 
-kind_so : (given : List Setting) (plain : List (List ℕ)) (by : ℕ) (kind : Kind) (number : ℕ) → length plain ≡ 2 → IsBy given by
+kind_so : (given : List Setting) (plain : List (List ℕ)) (by : ℕ) (kind : Kind) (number : ℕ) → length plain ≡ 2 → IsRightFactor (value_of (codes "by") given) by
     → option_and_then (with_factor by) (kind_of (first_word plain)) ≡ Some kind → number_of 1 MOST_BITS (number_word plain) ≡ Some number
     → TakesKind given plain (taken_for kind number [])
 kind_so given plain by kind number two own e is =
@@ -211,7 +212,7 @@ kind_so given plain by kind number two own e is =
       no_bits = refl;
     }
 
-kind_gives : (given : List Setting) (plain : List (List ℕ)) (by : ℕ) (taken : Taken) → IsBy given by → (is : TakesKind given plain taken)
+kind_gives : (given : List Setting) (plain : List (List ℕ)) (by : ℕ) (taken : Taken) → IsRightFactor (value_of (codes "by") given) by → (is : TakesKind given plain taken)
     → (length plain ≡ 2) × (option_and_then (with_factor by) (kind_of (first_word plain)) ≡ Some taken.kind)
     × (number_of 1 MOST_BITS (number_word plain) ≡ Some taken.number)
 kind_gives given plain by taken own is = (
@@ -221,7 +222,15 @@ kind_gives given plain by taken own is = (
   ap (λ (ws : List (List ℕ)). number_of 1 MOST_BITS (number_word ws)) is.both ∙ number_found 1 MOST_BITS is.word taken.number is.in_range,
 )
 
-takes_so : (takes : Positional) (given : List Setting) (plain : List (List ℕ)) (by : ℕ) (kind : Kind) (number : ℕ) → IsBy given by
+-- where a kind is taken, the factor is that of `--by`
+abbrev HasOwnFactor : Positional → List Setting → ℕ → Type 0
+HasOwnFactor takes given by = takes ≡ KindAndNumber → IsRightFactor (value_of (codes "by") given) by
+
+own_factor : (command : Command) (given : List Setting) (by : ℕ) → IsBy command given by → HasOwnFactor (takes_of command) given by
+own_factor Verify given by is e = absurd (false≢true (ap takes_kind e))
+own_factor command given by is e = is
+
+takes_so : (takes : Positional) (given : List Setting) (plain : List (List ℕ)) (by : ℕ) (kind : Kind) (number : ℕ) → HasOwnFactor takes given by
     → takes_count takes (length plain) ≡ true → kind_for takes by plain ≡ Some kind → number_for takes plain ≡ Some number
     → TakesWords takes given plain (taken_for kind number (bits_for takes plain))
 takes_so Nothing given plain by kind number own count named is =
@@ -233,10 +242,10 @@ takes_so Words given plain by kind number own count named is =
 takes_so Number given plain by kind number own count named is =
     number_so plain kind number (grind (arith, nat_tests, count)) (no_kind kind named) is
 takes_so KindAndNumber given plain by kind number own count named is =
-    kind_so given plain by kind number (grind (arith, nat_tests, count)) own named is
+    kind_so given plain by kind number (grind (arith, nat_tests, count)) (own refl) named is
 
 -- the count, the kind, the number and the bits
-takes_gives : (takes : Positional) (given : List Setting) (plain : List (List ℕ)) (by : ℕ) (taken : Taken) → IsBy given by → TakesWords takes given plain taken
+takes_gives : (takes : Positional) (given : List Setting) (plain : List (List ℕ)) (by : ℕ) (taken : Taken) → HasOwnFactor takes given by → TakesWords takes given plain taken
     → (takes_count takes (length plain) ≡ true) × (kind_for takes by plain ≡ Some taken.kind) × (number_for takes plain ≡ Some taken.number)
     × (taken.bits ≡ bits_for takes plain)
 takes_gives Nothing given plain by taken own is =
@@ -248,7 +257,7 @@ takes_gives Words given plain by taken own is =
 takes_gives Number given plain by taken own is =
     let said = number_gives plain taken is in let n = said.0 in (grind (arith, nat_tests), ap Some (sym is.no_kind), said.1, is.no_bits)
 takes_gives KindAndNumber given plain by taken own is =
-    let said = kind_gives given plain by taken own is in let n = said.0 in (grind (arith, nat_tests), said.1, said.2, is.no_bits)
+    let said = kind_gives given plain by taken (own refl) is in let n = said.0 in (grind (arith, nat_tests), said.1, said.2, is.no_bits)
 
 no_length : (plain : List (List ℕ)) → length plain ≡ 0 → plain ≡ []
 no_length [] e = refl
@@ -264,27 +273,36 @@ takes_none KindAndNumber given plain taken is none = absurd (false≢true (sym n
 
 -- ---- the texts that are given
 
-abbrev texts_of : List Setting → Texts
-texts_of given = texts_by (λ name. value_of name given)
+abbrev texts_of : Command → List Setting → Texts
+texts_of command given = texts_by command (λ name. value_of name given)
 
-same_texts : (rows : List Row) (given : List Setting)
-    → ((id : List ℕ) → bytes_eq (codes "word") id ≡ false → first_of id rows ≡ value_of id given) → texts_in rows ≡ texts_of given
-same_texts rows given h = λ i. record {
+factor_is_no_word : (command : Command) → bytes_eq (codes "word") (factor_option command) ≡ false
+factor_is_no_word Verify = refl
+factor_is_no_word command = refl
+
+way_is_no_word : (command : Command) → bytes_eq (codes "word") (way_option command) ≡ false
+way_is_no_word Verify = refl
+way_is_no_word command = refl
+
+same_texts : (command : Command) (rows : List Row) (given : List Setting)
+    → ((id : List ℕ) → bytes_eq (codes "word") id ≡ false → first_of id rows ≡ value_of id given) → texts_in command rows ≡ texts_of command given
+same_texts command rows given h = λ i. record {
   plan = h (codes "plan") refl i;
   lines = h (codes "lines") refl i;
   gates = h (codes "gates") refl i;
   borrow = h (codes "borrow") refl i;
   nodes = h (codes "nodes") refl i;
   outputs = h (codes "outputs") refl i;
+  way = h (way_option command) (way_is_no_word command) i;
   format = h (codes "format") refl i;
   from = h (codes "from") refl i;
   to = h (codes "to") refl i;
-  by = h (codes "by") refl i;
+  by = h (factor_option command) (factor_is_no_word command) i;
   write = h (codes "write") refl i;
 }
 
 abbrev order_said : Command → Said → Option OrderView
-order_said command what = order_of_texts command (texts_of what.given) what.plain
+order_said command what = order_of_texts command (texts_of command what.given) what.plain
 
 -- the rows of a parse are made of what the words say
 record IsFound (command : Command) (behind : List (List ℕ)) (rows : List Row) : Type 0 where
@@ -302,7 +320,7 @@ found_rows command words behind rows named texts e =
       what = it.what;
       found = it.found;
       once = it.once;
-      same = λ i. order_of_texts command (same_texts rows it.what.given it.values i) (it.plain i);
+      same = λ i. order_of_texts command (same_texts command rows it.what.given it.values i) (it.plain i);
     }
 
 -- ---- the values of the texts
@@ -319,6 +337,7 @@ record GiveAll (texts : Texts) (v : Values) : Type 0 where
   borrow : Gives borrow_rule texts.borrow v.borrow
   nodes : Gives nodes_rule texts.nodes v.nodes
   outputs : Gives start_rule texts.outputs v.outputs
+  way : Gives way_rule texts.way v.way
   format : Gives (format_rule Real) texts.format v.format
   from : Gives (format_rule Real) texts.from v.from
   to : Gives (format_rule Qasm) texts.to v.to
@@ -333,7 +352,8 @@ values_say texts v e =
     let borrow = and_says _ _ v gates.2 in
     let nodes = and_says _ _ v borrow.2 in
     let outputs = and_says _ _ v nodes.2 in
-    let format = and_says _ _ v outputs.2 in
+    let way = and_says _ _ v outputs.2 in
+    let format = and_says _ _ v way.2 in
     let from = and_says _ _ v format.2 in
     let to = and_says _ _ v from.2 in
     let by = and_says _ _ v to.2 in
@@ -346,6 +366,7 @@ values_say texts v e =
       borrow = borrow.1 ∙ ap (λ (all : Values). Some all.borrow) same;
       nodes = nodes.1 ∙ ap (λ (all : Values). Some all.nodes) same;
       outputs = outputs.1 ∙ ap (λ (all : Values). Some all.outputs) same;
+      way = way.1 ∙ ap (λ (all : Values). Some all.way) same;
       format = format.1 ∙ ap (λ (all : Values). Some all.format) same;
       from = from.1 ∙ ap (λ (all : Values). Some all.from) same;
       to = to.1 ∙ ap (λ (all : Values). Some all.to) same;
@@ -386,11 +407,11 @@ gives_once (one ∷ given) once (suc i) (suc j) d lt within = gives_once given o
 order_is : (words behind : List (List ℕ)) (command : Command) (what : Said) (order : OrderView) → words ≡ name_of command ∷ behind
     → read (options_of command) behind None ≡ Some what → AreOnce what.given → order_said command what ≡ Some order → IsOrder words order
 order_is words behind command what order named found once e =
-    let valued = and_says (order_by command what.plain) (values_of (texts_of what.given)) order e in
+    let valued = and_says (order_by command what.plain) (values_of (texts_of command what.given)) order e in
     let values = valued.0 in
-    let all = values_say (texts_of what.given) values valued.1 in
+    let all = values_say (texts_of command what.given) values valued.1 in
     let takes = takes_of command in
-    let by = right by_rule (value_of (codes "by") what.given) values.by all.by in
+    let by = right by_rule (value_of (factor_option command) what.given) values.by all.by in
     by_test (takes_count takes (length what.plain))
     (λ t.
     let kinded = and_says (λ kind. option_map (λ number. order_with command values kind number (bits_for takes what.plain)) (number_for takes what.plain))
@@ -405,13 +426,14 @@ order_is words behind command what order named found once e =
       named = named;
       read = reads (options_of command) behind what found;
       once = gives_once what.given once;
-      takes = takes_so takes what.given what.plain values.by kind number by t kinded.1 numbered.1;
+      takes = takes_so takes what.given what.plain values.by kind number (own_factor command what.given values.by by) t kinded.1 numbered.1;
       plan = right plan_rule (value_of (codes "plan") what.given) values.plan all.plan;
       lines = right lines_rule (value_of (codes "lines") what.given) values.lines all.lines;
       gates = right gates_rule (value_of (codes "gates") what.given) values.gates all.gates;
       borrow = right borrow_rule (value_of (codes "borrow") what.given) values.borrow all.borrow;
       nodes = right nodes_rule (value_of (codes "nodes") what.given) values.nodes all.nodes;
       outputs = right start_rule (value_of (codes "outputs") what.given) values.outputs all.outputs;
+      way = right way_rule (value_of (way_option command) what.given) values.way all.way;
       format = right (format_rule Real) (value_of (codes "format") what.given) values.format all.format;
       from = right (format_rule Real) (value_of (codes "from") what.given) values.from all.from;
       to = right (format_rule Qasm) (value_of (codes "to") what.given) values.to all.to;
@@ -429,7 +451,7 @@ order_is words behind command what order named found once e =
 said_so : (words : List (List ℕ)) (order : OrderView) → (is : IsOrder words order) → order_said order.command (said is.given is.plain) ≡ Some order
 said_so words order is =
     let takes = takes_of order.command in
-    let taken = takes_gives takes is.given is.plain order.by (taken_of order) is.by is.takes in
+    let taken = takes_gives takes is.given is.plain order.by (taken_of order) (own_factor order.command is.given order.by is.by) is.takes in
     let values : Values = record {
       plan = order.plan;
       lines = order.lines;
@@ -437,23 +459,25 @@ said_so words order is =
       borrow = order.borrow;
       nodes = order.nodes;
       outputs = order.outputs;
+      way = order.way;
       format = order.format;
       from = order.from;
       to = order.to;
       by = order.by;
       write = order.write;
     } in
-    let valued : values_of (texts_of is.given) ≡ Some values = rw (
+    let valued : values_of (texts_of order.command is.given) ≡ Some values = rw (
       kept plan_rule (value_of (codes "plan") is.given) order.plan is.plan,
       kept lines_rule (value_of (codes "lines") is.given) order.lines is.lines,
       kept gates_rule (value_of (codes "gates") is.given) order.gates is.gates,
       kept borrow_rule (value_of (codes "borrow") is.given) order.borrow is.borrow,
       kept nodes_rule (value_of (codes "nodes") is.given) order.nodes is.nodes,
       kept start_rule (value_of (codes "outputs") is.given) order.outputs is.outputs,
+      kept way_rule (value_of (way_option order.command) is.given) order.way is.way,
       kept (format_rule Real) (value_of (codes "format") is.given) order.format is.format,
       kept (format_rule Real) (value_of (codes "from") is.given) order.from is.from,
       kept (format_rule Qasm) (value_of (codes "to") is.given) order.to is.to,
-      kept by_rule (value_of (codes "by") is.given) order.by is.by,
+      kept by_rule (value_of (factor_option order.command) is.given) order.by is.by,
       kept write_rule (value_of (codes "write") is.given) order.write is.write,
     ) refl in
     ap (option_and_then (order_by order.command is.plain)) valued
@@ -528,6 +552,10 @@ each_of P all (option ∷ options) each e = by_test (is_one_of all option)
     (λ t. (among P all option each (known_says all option t), each_of P all options each (rw t at e)))
     (λ f. absurd (false≢true (rw f at e)))
 
+safe_by : (command : Command) (given : List Setting) (by : ℕ) (way : Way) → IsBy command given by → IsWay command given way → IsSafe given (codes "by")
+safe_by Verify given by way is gives = record { each = λ word e. text_is_no_option way_rule (value_of (codes "by") given) way word gives e }
+safe_by command given by way is gives = record { each = λ word e. text_is_no_option by_rule (value_of (codes "by") given) by word is e }
+
 safe : (words : List (List ℕ)) (order : OrderView) → (is : IsOrder words order) → AllByRecursion (IsSafe is.given) (options_of order.command)
 safe words order is =
     each_of (IsSafe is.given) all_options (options_of order.command)
@@ -561,7 +589,7 @@ safe words order is =
     to = record { each = λ word e. text_is_no_option (format_rule Qasm) (value_of (codes "to") is.given) order.to word is.to e }
 
     by : IsSafe is.given (codes "by")
-    by = record { each = λ word e. text_is_no_option by_rule (value_of (codes "by") is.given) order.by word is.by e }
+    by = safe_by order.command is.given order.by order.way is.by is.way
 
     write : IsSafe is.given (codes "write")
     write = record { each = λ word e. text_is_no_option write_rule (value_of (codes "write") is.given) order.write word is.write e }

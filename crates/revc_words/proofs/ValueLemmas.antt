@@ -19,10 +19,12 @@ use Rattle.revc_words.specs.declared.order.Format.{Format}
 use Rattle.revc_words.specs.declared.order.Format.TheVariants.{Real, Qasm}
 use Rattle.circuit_plans.specs.declared.roles.Start.{Start}
 use Rattle.circuit_plans.specs.declared.roles.Start.TheVariants.{Any, Zero}
+use Rattle.revc_words.specs.declared.order.Way.{Way}
+use Rattle.revc_words.specs.declared.order.Way.TheVariants.{Both, Diagrams, Sums}
 use Rattle.revc_words.specs.declared.order.Write.{Write}
 use Rattle.revc_words.specs.declared.order.Write.TheVariants as writes
-use Rattle.revc_words.specs.Words.{IsNumberIn, plan_word, start_word, format_word, kind_word, write_word, is_option}
-use Rattle.revc_words.specs.inside.Parsing.{first_with, is_number_in, number_of, plan_of, start_of, format_of, kind_of, write_of, value_or}
+use Rattle.revc_words.specs.Words.{IsNumberIn, plan_word, start_word, way_word, format_word, kind_word, write_word, is_option}
+use Rattle.revc_words.specs.inside.Parsing.{first_with, is_number_in, number_of, plan_of, start_of, way_of, format_of, kind_of, write_of, value_or}
 
 digits : IsNumeralModel (λ ds. all_ascii_digits ds ≡ true) (digits_value 10)
 digits = numerals_by_value _ tells_all_ascii_digits
@@ -138,6 +140,11 @@ pub start_named : (start : Start) → start_of (start_word start) ≡ Some start
 start_named Any = refl
 start_named Zero = refl
 
+pub way_named : (way : Way) → way_of (way_word way) ≡ Some way
+way_named Diagrams = refl
+way_named Sums = refl
+way_named Both = refl
+
 pub write_named : (write : Write) → write_of (write_word write) ≡ Some write
 write_named writes.Program = refl
 write_named writes.Real = refl
@@ -198,6 +205,21 @@ start_rule = record {
   says = first_says start_word (Any ∷ Zero ∷ []);
   found = λ word start is. ap start_of is ∙ start_named start;
   no_option = λ word start is. ap is_option is ∙ start_is_no_option start;
+}
+
+pub way_is_no_option : (way : Way) → is_option (way_word way) ≡ false
+way_is_no_option Diagrams = refl
+way_is_no_option Sums = refl
+way_is_no_option Both = refl
+
+abbrev pub way_rule : Rule Way
+way_rule = record {
+  value = way_of;
+  Writes = λ word way. word ≡ way_word way;
+  usual = Diagrams;
+  says = first_says way_word (Diagrams ∷ Sums ∷ Both ∷ []);
+  found = λ word way is. ap way_of is ∙ way_named way;
+  no_option = λ word way is. ap is_option is ∙ way_is_no_option way;
 }
 
 pub write_is_no_option : (write : Write) → is_option (write_word write) ≡ false

@@ -42,7 +42,8 @@ spelling_of Bench = record {
 }
 spelling_of Verify = record {
   name = codes "verify";
-  options = codes "from" ∷ codes "nodes" ∷ codes "borrow" ∷ codes "outputs" ∷ [];
+  options =
+      codes "from" ∷ codes "nodes" ∷ codes "borrow" ∷ codes "outputs" ∷ codes "by" ∷ [];
   takes = Nothing;
 }
 spelling_of Arith = record {
@@ -59,3 +60,15 @@ options_of command = (spelling_of command).options
 
 abbrev pub takes_of : Command → Positional
 takes_of command = (spelling_of command).takes
+
+-- ---- `--by`, which is a way to `verify`, and a factor elsewhere; no option has the empty name
+
+-- the option that gives the factor by which a program multiplies
+abbrev pub factor_option : Command → List ℕ
+factor_option Verify = codes ""
+factor_option command = codes "by"
+
+-- the option that gives the way by which a circuit is verified
+abbrev pub way_option : Command → List ℕ
+way_option Verify = codes "by"
+way_option command = codes ""

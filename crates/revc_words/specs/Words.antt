@@ -16,12 +16,14 @@ use Rattle.circuit_plans.specs.declared.roles.Start.{Start}
 use Rattle.circuit_plans.specs.declared.roles.Start.TheVariants.{Any, Zero}
 use Rattle.program_gen.specs.declared.adder.TheConstants.{MOST_BITS}
 use Rattle.revc_words.specs.declared.limits.TheConstants.{MOST_DIGITS, MOST_NODES, USUAL_LINES, USUAL_GATES, USUAL_NODES}
-use Rattle.revc_words.specs.Commands.{name_of, options_of, takes_of}
+use Rattle.revc_words.specs.Commands.{factor_option, name_of, options_of, takes_of, way_option}
 use Rattle.revc_words.specs.declared.commands.Command.{Command}
 use Rattle.revc_words.specs.declared.commands.Positional.{Positional}
 use Rattle.revc_words.specs.declared.commands.Positional.TheVariants.{Nothing, Word, Words, Number, KindAndNumber}
 use Rattle.revc_words.specs.declared.order.Format.{Format}
 use Rattle.revc_words.specs.declared.order.Format.TheVariants.{Real, Qasm}
+use Rattle.revc_words.specs.declared.order.Way.{Way}
+use Rattle.revc_words.specs.declared.order.Way.TheVariants.{Both, Diagrams, Sums}
 use Rattle.revc_words.specs.declared.order.Write.{Write}
 use Rattle.revc_words.specs.declared.order.Write.TheVariants as writes
 use Rattle.revc_words.specs.declared.order.Order.{Order}
@@ -34,9 +36,9 @@ words_of words = map string_bytes words
 -- ---- orders
 
 -- a command, the plans that it tries, the most lines and gates of its circuit, how many lines it
--- borrows, the most nodes of its diagrams, what its output lines may hold at the start, the format
--- of the circuit of a program, the formats that `convert` and `tidy` read and write, what a program
--- computes of numbers, the factor by which it multiplies, what is written of it, how many bits its
+-- borrows, the most nodes of its diagrams, what its output lines may hold at the start, the way by
+-- which a circuit is verified, the format of the circuit of a program, the formats that `convert`
+-- and `tidy` read and write, what a program computes of numbers, the factor by which it multiplies, what is written of it, how many bits its
 -- numbers have, and words of bits
 pub record OrderView : Type 0 where
   pub command : Command
@@ -46,6 +48,7 @@ pub record OrderView : Type 0 where
   pub borrow : ℕ
   pub nodes : ℕ
   pub outputs : Start
+  pub way : Way
   pub format : Format
   pub from : Format
   pub to : Format
@@ -65,6 +68,7 @@ order_with command values kind number bits = record {
   borrow = values.borrow;
   nodes = values.nodes;
   outputs = values.outputs;
+  way = values.way;
   format = values.format;
   from = values.from;
   to = values.to;
@@ -154,6 +158,12 @@ abbrev pub start_word : Start → List ℕ
 start_word Any = codes "any"
 start_word Zero = codes "zero"
 
+-- the word for a way by which a circuit is verified
+abbrev pub way_word : Way → List ℕ
+way_word Diagrams = codes "diagrams"
+way_word Sums = codes "sums"
+way_word Both = codes "both"
+
 -- the word for a format
 abbrev pub format_word : Format → List ℕ
 format_word Real = codes "real"
@@ -220,9 +230,13 @@ IsFrom given from = IsChosen (codes "from") format_word Real given from
 abbrev pub IsTo : List Setting → Format → Type 0
 IsTo given to = IsChosen (codes "to") format_word Qasm given to
 
--- the factor: the one that is given, from 1 on, or 0
-abbrev pub IsBy : List Setting → ℕ → Type 0
-IsBy given by = IsCounted (codes "by") 1 MOST_FACTOR 0 given by
+-- the factor: the one that is given to the command, from 1 on, or 0
+abbrev pub IsBy : Command → List Setting → ℕ → Type 0
+IsBy command given by = IsCounted (factor_option command) 1 MOST_FACTOR 0 given by
+
+-- the way by which a circuit is verified: the one that is given to the command, or by diagrams
+abbrev pub IsWay : Command → List Setting → Way → Type 0
+IsWay command given way = IsChosen (way_option command) way_word Diagrams given way
 
 -- what is written of a program: what is given, or its text
 abbrev pub IsWrite : List Setting → Write → Type 0
@@ -297,10 +311,11 @@ pub record IsOrder (words : List (List ℕ)) (order : OrderView) : Type 0 where
   pub borrow : AreBorrowed given order.borrow
   pub nodes : AreNodes given order.nodes
   pub outputs : IsStart given order.outputs
+  pub way : IsWay order.command given order.way
   pub format : IsFormat given order.format
   pub from : IsFrom given order.from
   pub to : IsTo given order.to
-  pub by : IsBy given order.by
+  pub by : IsBy order.command given order.by
   pub write : IsWrite given order.write
 
 pub record HasNoOrder (words : List (List ℕ)) : Type 0 where

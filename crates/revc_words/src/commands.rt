@@ -1,6 +1,7 @@
 // The commands, each by one record of what the words of the command line see of it.
 ghost use Rattle.std.specs.Prelude.{◌≡◌, map};
-ghost use Rattle.revc_words.specs.Commands.{name_of, options_of, takes_of};
+ghost use Rattle.revc_words.specs.Commands.{factor_option, name_of, options_of, takes_of};
+ghost use Rattle.revc_words.specs.Commands.{way_option};
 ghost use Rattle.revc_words.specs.inside.Parsing.{command_named, takes_any, takes_count};
 ghost use Rattle.revc_words.specs.inside.Parsing.{takes_kind, takes_number};
 
@@ -98,10 +99,30 @@ impl Command {
             ),
             Command::Verify => spelled(
                 "verify",
-                &["from", "nodes", "borrow", "outputs"],
+                &["from", "nodes", "borrow", "outputs", "by"],
                 Positional::Nothing,
             ),
             Command::Arith => spelled("arith", &["by", "write"], Positional::KindAndNumber),
+        }
+    }
+
+    // The option that gives the factor by which a program multiplies.
+    pub fn factor_option<'a>(self) -> &'a str
+        ensures { result.now ≡ factor_option self }
+    {
+        match self {
+            Command::Verify => "",
+            _ => "by",
+        }
+    }
+
+    // The option that gives the way by which a circuit is verified.
+    pub fn way_option<'a>(self) -> &'a str
+        ensures { result.now ≡ way_option self }
+    {
+        match self {
+            Command::Verify => "by",
+            _ => "",
         }
     }
 

@@ -15,6 +15,17 @@ pub enum Format {
     Qasm,
 }
 
+/// How it is decided that a circuit computes a program.
+#[derive(Clone, Copy, PartialEq, Eq)]
+pub enum Way {
+    /// By decision diagrams, which tell exactly where it does not.
+    Diagrams,
+    /// By sums of products, which may not settle it.
+    Sums,
+    /// By sums, and where these do not settle it by diagrams.
+    Both,
+}
+
 /// What is written of a program that computes with numbers.
 #[derive(Clone, Copy, PartialEq, Eq)]
 pub enum Write {
@@ -41,6 +52,8 @@ pub struct Values {
     pub nodes: u32,
     /// What the output lines of a circuit may hold at the start.
     pub outputs: Start,
+    /// How a circuit is verified.
+    pub way: Way,
     /// The format of the circuit of a program.
     pub format: Format,
     /// The format of the circuit that is read.
@@ -62,6 +75,7 @@ impl Values {
         borrow: 0,
         nodes: USUAL_NODES,
         outputs: Start::Zero,
+        way: Way::Diagrams,
         format: Format::Real,
         from: Format::Real,
         to: Format::Qasm,

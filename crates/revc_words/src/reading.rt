@@ -54,7 +54,7 @@ fn order(alloc: Global, command: Command, matches: &ArgMatches) -> Result<Order,
     ensures usage { IsErrOf result WordsFault.Usage
         → order_for command (rows_of (found_of matches.now)) ≡ None }
 {
-    let Some(values) = values_given(matches) else {
+    let Some(values) = values_given(command, matches) else {
         return Err(WordsFault::Usage);
     };
     match matches.get_strs("word") {

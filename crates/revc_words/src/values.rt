@@ -1,18 +1,19 @@
 // The values of options, and the texts that give them.
 ghost use Rattle.std.specs.Prelude.{◌≡◌, ℕ, List, Option};
 ghost use Rattle.clap.specs.Words.{first_of, found_of, rows_of};
+ghost use Rattle.revc_words.specs.Commands.{factor_option, way_option};
 ghost use Rattle.revc_words.specs.inside.Parsing.{kind_of, number_of, text_at};
 ghost use Rattle.revc_words.specs.inside.Parsing.{texts_in, value_or, values_of, plan_of};
-ghost use Rattle.revc_words.specs.inside.Parsing.{format_of, start_of, write_of};
+ghost use Rattle.revc_words.specs.inside.Parsing.{format_of, start_of, way_of, write_of};
 
-use crate::{Format, MOST_DIGITS, MOST_NODES, Values, Write};
+use crate::{Command, Format, MOST_DIGITS, MOST_NODES, Values, Way, Write};
 use arith_templates::{Kind, MOST_FACTOR};
 use circuit_plans::{How, MOST_BORROWED, MOST_GATES, MOST_LINES, Start};
 use clap::ArgMatches;
 
-/// The values of the texts that are given: what has no text has its usual value.
-pub fn values_given(matches: &ArgMatches) -> Option<Values>
-    ensures { result ≡ values_of (texts_in (rows_of (found_of matches.now))) }
+/// The values of the texts that are given to a command: what has no text has its usual value.
+pub fn values_given(command: Command, matches: &ArgMatches) -> Option<Values>
+    ensures { result ≡ values_of (texts_in command (rows_of (found_of matches.now))) }
 {
     let usual = Values::USUAL;
     let most_gates = MOST_GATES as u32;
@@ -24,10 +25,11 @@ pub fn values_given(matches: &ArgMatches) -> Option<Values>
         borrow: number_or(text(matches, "borrow"), 0, MOST_BORROWED, usual.borrow)?,
         nodes: number_or(text(matches, "nodes"), 1, MOST_NODES, usual.nodes)?,
         outputs: chosen(text(matches, "outputs"), usual.outputs)?,
+        way: chosen(way_text(command, matches), usual.way)?,
         format: chosen(text(matches, "format"), usual.format)?,
         from: chosen(text(matches, "from"), usual.from)?,
         to: chosen(text(matches, "to"), usual.to)?,
-        by: number_or(text(matches, "by"), 1, MOST_FACTOR, usual.by)?,
+        by: number_or(factor_text(command, matches), 1, MOST_FACTOR, usual.by)?,
         write: chosen(text(matches, "write"), usual.write)?,
     })
 }
@@ -38,6 +40,20 @@ fn text<'a>(matches: &ArgMatches<'a>, option: &str) -> Option<&'a str>
         ≡ first_of option.now (rows_of (found_of matches.now)) }
 {
     matches.get_str(option)
+}
+
+// The text that is given for the way by which a circuit is verified.
+fn way_text<'a>(command: Command, matches: &ArgMatches<'a>) -> Option<&'a str>
+    ensures { text_at result ≡ first_of (way_option command) (rows_of (found_of matches.now)) }
+{
+    text(matches, command.way_option())
+}
+
+// The text that is given for the factor by which a program multiplies.
+fn factor_text<'a>(command: Command, matches: &ArgMatches<'a>) -> Option<&'a str>
+    ensures { text_at result ≡ first_of (factor_option command) (rows_of (found_of matches.now)) }
+{
+    text(matches, command.factor_option())
 }
 
 // The number that a text writes, or the usual one where there is no text.
@@ -105,6 +121,19 @@ impl Choice for Start {
         match name {
             "any" => Some(Start::Any),
             "zero" => Some(Start::Zero),
+            _ => None,
+        }
+    }
+}
+
+impl Choice for Way {
+    ghost choice = { way_of };
+
+    fn named(name: &str) -> Option<Way> {
+        match name {
+            "diagrams" => Some(Way::Diagrams),
+            "sums" => Some(Way::Sums),
+            "both" => Some(Way::Both),
             _ => None,
         }
     }

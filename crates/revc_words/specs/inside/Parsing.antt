@@ -17,17 +17,19 @@ use Rattle.circuit_plans.specs.declared.roles.Start.{Start}
 use Rattle.circuit_plans.specs.declared.roles.Start.TheVariants.{Any, Zero}
 use Rattle.program_gen.specs.declared.adder.TheConstants.{MOST_BITS}
 use Rattle.revc_words.specs.declared.limits.TheConstants.{MOST_DIGITS, MOST_NODES, USUAL_LINES, USUAL_GATES, USUAL_NODES}
-use Rattle.revc_words.specs.Commands.{name_of, options_of, takes_of}
+use Rattle.revc_words.specs.Commands.{factor_option, name_of, options_of, takes_of, way_option}
 use Rattle.revc_words.specs.declared.commands.Command.{Command}
 use Rattle.revc_words.specs.declared.commands.TheConstants.Command.{ALL}
 use Rattle.revc_words.specs.declared.commands.Positional.{Positional}
 use Rattle.revc_words.specs.declared.commands.Positional.TheVariants.{Nothing, Word, Words, Number, KindAndNumber}
 use Rattle.revc_words.specs.declared.order.Format.{Format}
 use Rattle.revc_words.specs.declared.order.Format.TheVariants.{Real, Qasm}
+use Rattle.revc_words.specs.declared.order.Way.{Way}
+use Rattle.revc_words.specs.declared.order.Way.TheVariants.{Both, Diagrams, Sums}
 use Rattle.revc_words.specs.declared.order.Write.{Write}
 use Rattle.revc_words.specs.declared.order.Write.TheVariants as writes
 use Rattle.revc_words.specs.declared.order.Values.{Values}
-use Rattle.revc_words.specs.Words.{OrderView, order_with, plan_word, start_word, format_word, write_word, kind_word, first_word}
+use Rattle.revc_words.specs.Words.{OrderView, order_with, plan_word, start_word, way_word, format_word, write_word, kind_word, first_word}
 
 -- ---- the command
 
@@ -126,6 +128,9 @@ plan_of word = first_with plan_word (Auto ∷ Compact ∷ Eager ∷ Lean ∷ Peb
 abbrev pub start_of : List ℕ → Option Start
 start_of word = first_with start_word (Any ∷ Zero ∷ []) word
 
+abbrev pub way_of : List ℕ → Option Way
+way_of word = first_with way_word (Diagrams ∷ Sums ∷ Both ∷ []) word
+
 abbrev pub format_of : List ℕ → Option Format
 format_of word = first_with format_word (Real ∷ Qasm ∷ []) word
 
@@ -152,30 +157,32 @@ pub record Texts : Type 0 where
   pub borrow : Option (List ℕ)
   pub nodes : Option (List ℕ)
   pub outputs : Option (List ℕ)
+  pub way : Option (List ℕ)
   pub format : Option (List ℕ)
   pub from : Option (List ℕ)
   pub to : Option (List ℕ)
   pub by : Option (List ℕ)
   pub write : Option (List ℕ)
 
--- the texts by the names of their options
-abbrev pub texts_by : (List ℕ → Option (List ℕ)) → Texts
-texts_by text_of = record {
+-- the texts by the names of a command's options
+abbrev pub texts_by : Command → (List ℕ → Option (List ℕ)) → Texts
+texts_by command text_of = record {
   plan = text_of (codes "plan");
   lines = text_of (codes "lines");
   gates = text_of (codes "gates");
   borrow = text_of (codes "borrow");
   nodes = text_of (codes "nodes");
   outputs = text_of (codes "outputs");
+  way = text_of (way_option command);
   format = text_of (codes "format");
   from = text_of (codes "from");
   to = text_of (codes "to");
-  by = text_of (codes "by");
+  by = text_of (factor_option command);
   write = text_of (codes "write");
 }
 
-abbrev pub texts_in : List Row → Texts
-texts_in rows = texts_by (λ name. first_of name rows)
+abbrev pub texts_in : Command → List Row → Texts
+texts_in command rows = texts_by command (λ name. first_of name rows)
 
 abbrev pub values_of : Texts → Option Values
 values_of texts =
@@ -185,6 +192,7 @@ values_of texts =
     option_and_then (λ borrow.
     option_and_then (λ nodes.
     option_and_then (λ outputs.
+    option_and_then (λ way.
     option_and_then (λ format.
     option_and_then (λ from.
     option_and_then (λ to.
@@ -196,6 +204,7 @@ values_of texts =
       borrow = borrow;
       nodes = nodes;
       outputs = outputs;
+      way = way;
       format = format;
       from = from;
       to = to;
@@ -207,6 +216,7 @@ values_of texts =
     (value_or Qasm format_of texts.to))
     (value_or Real format_of texts.from))
     (value_or Real format_of texts.format))
+    (value_or Diagrams way_of texts.way))
     (value_or Zero start_of texts.outputs))
     (value_or USUAL_NODES (number_of 1 MOST_NODES) texts.nodes))
     (value_or 0 (number_of 0 MOST_BORROWED) texts.borrow))
@@ -266,4 +276,4 @@ order_of_texts command texts plain =
 
 -- with these rows
 abbrev pub order_for : Command → List Row → Option OrderView
-order_for command rows = order_of_texts command (texts_in rows) (words_in rows)
+order_for command rows = order_of_texts command (texts_in command rows) (words_in rows)
