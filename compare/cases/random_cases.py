@@ -219,6 +219,8 @@ class Verify:
         options += [] if is_real else [self.random.choice([["--from=qasm"], ["--from", "qasm"]])]
         options += [["--borrow", str(borrow)]] if borrow or self.random.random() < 0.1 else []
         options += [["--outputs", self.random.choice(["any", "any", "any", "zero"])]] if self.random.random() < 0.4 else []
+        ways = ["sums", "sums", "both", "diagrams"]
+        options += [["--by", self.random.choice(ways)]] if self.random.random() < 0.4 else []
         self.random.shuffle(options)
         return [self.name] + [word for option in options for word in option]
 

@@ -205,9 +205,15 @@ def said(line: Optional[int], bits: str) -> bytes:
     return lines(["verified"])
 
 
+UNSETTLED = "circuit is not settled by sums"
+
+
 def verify_text(order: Order, source: bytes) -> bytes:
-    verdict, limit = verdict_of(order, source), order.values["nodes"]
-    if verdict.least > limit:
+    """What is written by diagrams; of a circuit that sums may settle, that they do."""
+    verdict, limit, way = verdict_of(order, source), order.values["nodes"], order.values["by"]
+    if way == "sums" and verdict.line is not None:
+        raise Fault(17, UNSETTLED)
+    if way == "diagrams" and verdict.least > limit or way == "both" and verdict.line is not None and verdict.least > limit:
         raise Fault(5, "circuit passes %d nodes" % limit)
     return said(verdict.line, verdict.bits)
 
@@ -263,7 +269,7 @@ def answer_of(words: List[str], text: bytes) -> Answer:
 
 def is_free(words: List[str], source: bytes, answer: Answer) -> bool:
     """Whether an answer is allowed that is not the model's: `verify` may say that a circuit passes its limit on nodes
-    where its functions do, and need not."""
+    where its functions do, and need not; and that sums do not settle one that agrees."""
     order = order_of(words)
     if order is None or order.command != "verify":
         return False
@@ -274,4 +280,6 @@ def is_free(words: List[str], source: bytes, answer: Answer) -> bool:
         return said(verdicts[0].line, verdicts[0].bits)
 
     other = answered(unlimited)
+    if order.values["by"] == "sums":
+        return other.status == 0 and answer == Fault(17, UNSETTLED).answer
     return bool(verdicts) and verdicts[0].most > order.values["nodes"] and answer in (passed, other)

@@ -50,6 +50,7 @@ TO = {"to": choice("qasm", "real")}
 NUMBERED = {"gen", "bench"}
 BITS = number(0, 1, 200)
 KINDS = {"add", "sub", "less", "inc", "mul"}
+VERIFIED = {"outputs": choice("zero", "any"), "by": choice("diagrams", "sums", "both")}
 ARITH = {"by": number(0, 1, 9_999), "write": choice("program", "real", "qasm")}
 
 # Of each command its options, and the least and most positional words
@@ -61,7 +62,7 @@ COMMANDS = {
     "run": (FROM, 1, None),
     "convert": ({**FROM, **TO}, 0, 0),
     "gen": ({}, 1, 1),
-    "verify": ({**FROM, **NODES, "borrow": PLANNED["borrow"], "outputs": choice("zero", "any")}, 0, 0),
+    "verify": ({**FROM, **NODES, **VERIFIED, "borrow": PLANNED["borrow"]}, 0, 0),
     "tidy": ({**FROM, **TO}, 0, 0),
     "arith": (ARITH, 2, 2),
     "bench": ({**NODES, **{name: PLANNED[name] for name in PLANNED if name != "format"}}, 1, 1),

@@ -186,6 +186,86 @@ const ANY: &[Long] = &[
     ),
 ];
 
+// A full adder, and a circuit that has its carry as (a + c) (b + c) + c.
+const ADDER: &[u8] = b"main (a : bool) (b : bool) (c : bool) =
+    reg [a <> b <> c; (a && b) <> (c && (a <> b))]";
+
+const CARRIED: &[u8] = b".version 2.0\n.numvars 5\n.variables a b c s k\n.begin\nt2 a s\nt2 b s
+t2 c s\nt2 c a\nt2 c b\nt3 a b k\nt2 c b\nt2 c a\nt2 c k\n.end\n";
+
+// A product of three, and a circuit that begins with the other two of them.
+const OF_THREE: &[u8] = b"main (a : bool) (b : bool) (c : bool) = a && (b && c)";
+
+const REGROUPED: &[u8] = b".version 2.0\n.numvars 5\n.variables a b c y w\n.begin\nt3 a b w
+t3 c w y\nt3 a b w\n.end\n";
+
+const UNSETTLED: &[u8] = b"revc: circuit is not settled by sums\n";
+
+// By sums of products, which no number of nodes bounds, and which never say that a circuit differs.
+const BY: &[Long] = &[
+    (
+        "verify --by sums",
+        &[(PRODUCT, 1), (PARTING, 1), (PRODUCT_FILE, 1)],
+        0,
+        VERIFIED,
+    ),
+    (
+        "verify --by sums --outputs any --nodes 1",
+        &[(ADDER, 1), (PARTING, 1), (CARRIED, 1)],
+        0,
+        VERIFIED,
+    ),
+    (
+        "verify --by both --nodes 1",
+        &[(ADDER, 1), (PARTING, 1), (CARRIED, 1)],
+        0,
+        VERIFIED,
+    ),
+    (
+        "verify --by diagrams --nodes 1",
+        &[(ADDER, 1), (PARTING, 1), (CARRIED, 1)],
+        5,
+        b"revc: circuit passes 1 nodes\n",
+    ),
+    (
+        "verify --by sums",
+        &[(PRODUCT, 1), (PARTING, 1), (UNDONE, 1)],
+        17,
+        UNSETTLED,
+    ),
+    (
+        "verify --by both",
+        &[(PRODUCT, 1), (PARTING, 1), (UNDONE, 1)],
+        15,
+        b"revc: circuit differs at line 4 on 11\n",
+    ),
+    (
+        "verify --by sums",
+        &[(OF_THREE, 1), (PARTING, 1), (REGROUPED, 1)],
+        17,
+        UNSETTLED,
+    ),
+    (
+        "verify --by both",
+        &[(OF_THREE, 1), (PARTING, 1), (REGROUPED, 1)],
+        0,
+        VERIFIED,
+    ),
+    (
+        "verify --by sums",
+        &[(PRODUCT, 1), (PARTING, 1), (TWO_LINES, 1)],
+        13,
+        b"revc: circuit has 2 lines, needs 3\n",
+    ),
+    ("verify --by 3", &[], 2, b"revc: bad command line\n"),
+    ("arith add 8 --by sums", &[], 2, b"revc: bad command line\n"),
+];
+
+#[test]
+fn circuits_are_settled_by_sums_or_not(rt: HostRuntime) -> Result<(), Fail> {
+    check_long(&rt, rt.alloc(), BY)
+}
+
 #[test]
 fn circuits_add_their_outputs_or_are_refused(rt: HostRuntime) -> Result<(), Fail> {
     check_long(&rt, rt.alloc(), ANY)
