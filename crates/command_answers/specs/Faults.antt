@@ -9,7 +9,7 @@ use Rattle.revs_terms.specs.Causes.{cause_word}
 use Rattle.command_answers.specs.Lines.{digits_of}
 use Rattle.command_answers.specs.declared.fault.Fault.{Fault}
 use Rattle.command_answers.specs.declared.fault.Fault.TheVariants.{Usage, Refused, Claim, Diagram, CircuitDiagram, Lines, Gates, Circuit}
-use Rattle.command_answers.specs.declared.fault.Fault.TheVariants.{BadBits, FewLines, WideGate, Differs, NoPart, Read, Write, Memory}
+use Rattle.command_answers.specs.declared.fault.Fault.TheVariants.{BadBits, FewLines, WideGate, Differs, Unsettled, NoPart, Read, Write, Memory}
 use Rattle.command_answers.specs.declared.fault.CircuitRefusal.{CircuitRefusal}
 use Rattle.command_answers.specs.declared.fault.CircuitRefusal.TheVariants as circuits
 use Rattle.command_answers.specs.declared.fault.FaultKind.{FaultKind}
@@ -35,6 +35,7 @@ status_of (FewLines lines need) = 13
 status_of (WideGate number) = 14
 status_of (Differs line bits) = 15
 status_of NoPart = 16
+status_of Unsettled = 17
 
 abbrev pub kind_text : FaultKind → List ℕ
 kind_text BadByte = codes "BadByte"
@@ -130,6 +131,7 @@ line_of (BadBits word) = bits_line word
 line_of (FewLines lines need) = few_lines_line lines need
 line_of (WideGate number) = wide_gate_line number
 line_of (Differs line bits) = differs_line line bits
+line_of Unsettled = codes "revc: circuit is not settled by sums\n"
 line_of NoPart = codes "revc: no parting line\n"
 line_of Read = codes "revc: read fault\n"
 line_of Write = codes "revc: write fault\n"

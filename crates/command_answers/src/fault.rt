@@ -45,6 +45,9 @@ pub enum Fault {
     /// The line with this number, counted from 1, ends on these bits as it should not.
     #[error("circuit differs")]
     Differs { line: u32, bits: Bits },
+    /// The sums of products of a circuit do not tell whether it computes the program.
+    #[error("circuit is not settled")]
+    Unsettled,
     /// The source has no parting line.
     #[error("no parting line")]
     NoPart,
@@ -118,6 +121,7 @@ impl Fault {
             Fault::WideGate { .. } => 14,
             Fault::Differs { .. } => 15,
             Fault::NoPart => 16,
+            Fault::Unsettled => 17,
         }
     }
 }

@@ -88,6 +88,7 @@ impl Piece for Line<'_> {
                 )
                     .put(buffer, out)
             }
+            Fault::Unsettled => b"revc: circuit is not settled by sums\n".put(buffer, out),
             Fault::NoPart => b"revc: no parting line\n".put(buffer, out),
             Fault::Read => b"revc: read fault\n".put(buffer, out),
             Fault::Write => b"revc: write fault\n".put(buffer, out),

@@ -20,3 +20,6 @@ returns-in-Differs-clause-bytes g c = rw c.in-Differs.is (rw c.bits-in-Differs.e
 
 pub returns-in-NoPart-clause-bytes : goal.returns-in-NoPart-clause-bytes
 returns-in-NoPart-clause-bytes g c = rw c.in-NoPart.is c.put-in-NoPart.ensures.bytes
+
+pub returns-in-Unsettled-clause-bytes : goal.returns-in-Unsettled-clause-bytes
+returns-in-Unsettled-clause-bytes g c = rw c.in-Unsettled.is c.put-in-Unsettled.ensures.bytes
