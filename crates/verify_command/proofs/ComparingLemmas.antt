@@ -1,6 +1,6 @@
 -- What the comparison of a settled graph with a circuit says of the tape and of the two texts.
-use Rattle.std.proofs.Common.{◌≡◌, inr, ℕ, ◌<◌, ◌≤◌, List, ◌∷◌, Result}
-use Rattle.std.proofs.Common.{Ok, Err, length, sum, refl, sym, ap, ◌∙◌, subst, arith, length-append}
+use Rattle.std.proofs.Common.{◌≡◌, inr, ℕ, ◌+◌, ◌<◌, ◌≤◌, List, ◌∷◌, Result}
+use Rattle.std.proofs.Common.{Ok, Err, false, length, sum, refl, sym, ap, ◌∙◌, subst, arith, length-append}
 use Rattle.std.specs.Prelude.{OnOk}
 use Rattle.std.specs.Result.{IfErr}
 use Rattle.std.proofs.lemmas.List.{length-map}
@@ -8,7 +8,7 @@ use Rattle.circuit_commands.specs.Circuits.{ReadCircuit, Means, line_count}
 use Rattle.circuit_commands.specs.Outcomes.{IsCircuitFault}
 use Rattle.circuit_commands.specs.declared.limits.TheConstants.{MOST_CIRCUIT_BYTES}
 use Rattle.circuit_verify.specs.Comparisons.{Comparison, beside, of_settled, of_tape, roles_in}
-use Rattle.circuit_verify.specs.Verdicts.{IsFirstWide, IsVerified, IsVerifyFault}
+use Rattle.circuit_verify.specs.Verdicts.{HasEnoughLines, IsFirstWide, IsVerified, IsVerifyFault}
 use Rattle.circuit_verify.specs.declared.fault.VerifyFault.{VerifyFault}
 use Rattle.circuit_verify.specs.declared.fault.VerifyFault.TheVariants as verdicts
 use Rattle.circuit_verify.proofs.TapeLemmas.{said_of_tapes}
@@ -17,7 +17,6 @@ use Rattle.command_answers.specs.declared.fault.CircuitRefusal.TheVariants as ci
 use Rattle.command_answers.specs.declared.fault.Fault.{Fault}
 use Rattle.command_answers.specs.declared.fault.Fault.TheVariants as faults
 use Rattle.command_answers.specs.declared.fault.Refusal.TheVariants as refusals
-use Rattle.circuit_plans.specs.declared.roles.Start.{Start}
 use Rattle.circuit_plans.specs.Plans.{lines_in}
 use Rattle.mct_circuit.specs.Gates.{AreGatesOn, CircuitView}
 use Rattle.program_commands.specs.Clean.{IsCleanCircuit}
@@ -26,22 +25,30 @@ use Rattle.program_commands.specs.Settling.{ForTexts, IsSettledWithin, LeavesSet
 use Rattle.revc_words.specs.Words.{OrderView}
 use Rattle.revs_tape.specs.Tapes.{TapeView, bit_on, outputs_on}
 use Rattle.revs_terms.proofs.TapeLemmas.{tape_gives_output}
+use Rattle.sum_verify.specs.Refusals.{IsSumsFault}
+use Rattle.sum_verify.specs.declared.fault.SumsFault.{SumsFault}
+use Rattle.sum_verify.specs.declared.fault.SumsFault.TheVariants as sums
+use Rattle.sum_verify.proofs.FaultLemmas.{refusals_said}
 use Rattle.verify_command.specs.Parting.{IsParted}
 use Rattle.verify_command.specs.Outcomes.{IsVerifyingFault}
-use Rattle.verify_command.specs.Verify.{AreVerified, Gives, comparison_of, verified_text}
+use Rattle.verify_command.specs.Verify.{AreVerified, Gives, HasDiagrams, HasWideGate, comparison_of, verified_text}
 use Rattle.verify_command.specs.declared.limits.TheConstants.{MOST_SOURCE_BYTES}
 use Rattle.verify_command.specs.inside.Mappings.{IsNamedIn, comparing_fault}
-use Rattle.verify_command.specs.inside.Stages.{IsComparingFault, IsPartsFault}
+use Rattle.verify_command.specs.inside.Stages.{IsComparingFault, IsPartsFault, SumsSay, comparison_with}
 use Rattle.verify_command.proofs.LimitLemmas.{stops_circuit, verified_circuit}
 
 -- ---- the comparison of a tape
 
-comparing : (q : Comparison) (limit : ℕ) (fault : VerifyFault) → IsVerifyFault q limit fault → IsComparingFault limit (comparing_fault q.circuit fault) q
-comparing q limit (verdicts.Lines need) is = (refl, is.0, is.1)
-comparing q limit (verdicts.Gate gate) is = record { enough = is.0; before = gate; first = is.1; count = refl }
-comparing q limit (verdicts.Diagram nodes) is = is
-comparing q limit (verdicts.Differs line bits) is = record { comparable = is.0; before = line; first = is.1; count = refl }
-comparing q limit verdicts.Memory is = tt
+wide_gate : (q : Comparison) (gate : ℕ) → HasEnoughLines q → IsFirstWide q.circuit.gates gate → HasWideGate q (gate + 1)
+wide_gate q gate enough first = record { enough = enough; before = gate; first = first; count = refl }
+
+comparing : (order : OrderView) (q : Comparison) (fault : VerifyFault) → HasDiagrams order.way → IsVerifyFault q order.nodes fault
+    → IsComparingFault order (comparing_fault q.circuit fault) q
+comparing order q (verdicts.Lines need) way is = (refl, is.0, is.1)
+comparing order q (verdicts.Gate gate) way is = wide_gate q gate is.0 is.1
+comparing order q (verdicts.Diagram nodes) way is = (way, is.0, is.1, is.2)
+comparing order q (verdicts.Differs line bits) way is = (way, record { comparable = is.0; before = line; first = is.1; count = refl })
+comparing order q verdicts.Memory way is = tt
 
 named_gate : (circuit : CircuitView) (gate : ℕ) → IsFirstWide circuit.gates gate → gate < length circuit.gates
 named_gate circuit gate first =
@@ -56,15 +63,53 @@ named q limit (verdicts.Diagram nodes) is = tt
 named q limit (verdicts.Differs line bits) is = is.1.in_range
 named q limit verdicts.Memory is = tt
 
-pub tape_stops : (t : TapeView) (s : SettledView) (params : List ℕ) (circuit : CircuitView) (start : Start) (borrow nodes : ℕ) (fault : VerifyFault)
-    (given : Fault) → params ≡ t.params → IsSettledOf t s → given ≡ comparing_fault circuit fault
-    → IsVerifyFault (beside (of_settled params s) circuit start borrow) nodes fault
-    → IsComparingFault nodes given (beside (of_tape t) circuit start borrow)
-tape_stops t s params circuit start borrow nodes fault given same is named h =
-    let q : Comparison = beside (of_tape t) circuit start borrow in
-    let said = (said_of_tapes t s is circuit start borrow nodes).refused fault
-    (subst (λ (ps : List ℕ). IsVerifyFault (beside (of_settled ps s) circuit start borrow) nodes fault) same h) in
-    subst (λ (f : Fault). IsComparingFault nodes f q) (sym named) (comparing q nodes fault said)
+pub tape_stops : (t : TapeView) (s : SettledView) (params : List ℕ) (circuit : CircuitView) (order : OrderView) (fault : VerifyFault) (given : Fault)
+    → params ≡ t.params → IsSettledOf t s → given ≡ comparing_fault circuit fault → HasDiagrams order.way
+    → IsVerifyFault (beside (of_settled params s) circuit order.outputs order.borrow) order.nodes fault
+    → IsComparingFault order given (comparison_with order t circuit)
+tape_stops t s params circuit order fault given same is named way h =
+    let said = (said_of_tapes t s is circuit order.outputs order.borrow order.nodes).refused fault
+    (subst (λ (ps : List ℕ). IsVerifyFault (beside (of_settled ps s) circuit order.outputs order.borrow) order.nodes fault) same h) in
+    subst (λ (f : Fault). IsComparingFault order f (comparison_with order t circuit)) (sym named)
+    (comparing order (comparison_with order t circuit) fault way said)
+
+-- ---- the comparison of a tape by sums
+
+pub sums_verified : (t : TapeView) (s : SettledView) (params : List ℕ) (circuit : CircuitView) (order : OrderView) → params ≡ t.params → IsSettledOf t s
+    → IsVerified (beside (of_settled params s) circuit order.outputs order.borrow) → IsVerified (comparison_with order t circuit)
+sums_verified t s params circuit order same is h =
+    (said_of_tapes t s is circuit order.outputs order.borrow order.nodes).verified
+    (subst (λ (ps : List ℕ). IsVerified (beside (of_settled ps s) circuit order.outputs order.borrow)) same h)
+
+sums_said : (t : TapeView) (s : SettledView) (params : List ℕ) (circuit : CircuitView) (order : OrderView) (fault named : SumsFault) → params ≡ t.params
+    → IsSettledOf t s → fault ≡ named → IsSumsFault (beside (of_settled params s) circuit order.outputs order.borrow) fault
+    → IsSumsFault (comparison_with order t circuit) named
+sums_said t s params circuit order fault named same is form h =
+    subst (λ (f : SumsFault). IsSumsFault (comparison_with order t circuit) f) form (refusals_said t s is circuit order.outputs order.borrow fault
+    (subst (λ (ps : List ℕ). IsSumsFault (beside (of_settled ps s) circuit order.outputs order.borrow) fault) same h))
+
+pub sums_unsettled : (t : TapeView) (s : SettledView) (params : List ℕ) (circuit : CircuitView) (order : OrderView) (fault : SumsFault)
+    → params ≡ t.params → IsSettledOf t s → fault ≡ sums.Unsettled → IsSumsFault (beside (of_settled params s) circuit order.outputs order.borrow) fault
+    → SumsSay false (comparison_with order t circuit)
+sums_unsettled t s params circuit order fault same is form h = sums_said t s params circuit order fault sums.Unsettled same is form h
+
+pub sums_few : (t : TapeView) (s : SettledView) (params : List ℕ) (circuit : CircuitView) (order : OrderView) (fault : SumsFault) (need : ℕ)
+    (given : Fault) → params ≡ t.params → IsSettledOf t s → fault ≡ sums.Lines need → given ≡ comparing_fault circuit (verdicts.Lines need)
+    → IsSumsFault (beside (of_settled params s) circuit order.outputs order.borrow) fault → IsComparingFault order given (comparison_with order t circuit)
+sums_few t s params circuit order fault need given same is form named h =
+    let said = sums_said t s params circuit order fault (sums.Lines need) same is form h in
+    subst (λ (f : Fault). IsComparingFault order f (comparison_with order t circuit)) (sym named) (refl, said.0, said.1)
+
+pub sums_wide : (t : TapeView) (s : SettledView) (params : List ℕ) (circuit : CircuitView) (order : OrderView) (fault : SumsFault) (gate : ℕ)
+    (given : Fault) → params ≡ t.params → IsSettledOf t s → fault ≡ sums.Gate gate → given ≡ comparing_fault circuit (verdicts.Gate gate)
+    → IsSumsFault (beside (of_settled params s) circuit order.outputs order.borrow) fault → IsComparingFault order given (comparison_with order t circuit)
+sums_wide t s params circuit order fault gate given same is form named h =
+    let said = sums_said t s params circuit order fault (sums.Gate gate) same is form h in
+    subst (λ (f : Fault). IsComparingFault order f (comparison_with order t circuit)) (sym named)
+    (wide_gate (comparison_with order t circuit) gate said.0 said.1)
+
+pub sums_named : (q : Comparison) (fault : SumsFault) (gate : ℕ) → fault ≡ sums.Gate gate → IsSumsFault q fault → gate < length q.circuit.gates
+sums_named q fault gate form h = named_gate q.circuit gate (subst (λ (f : SumsFault). IsSumsFault q f) form h).1
 
 -- ---- the comparison of two texts
 
@@ -92,7 +137,7 @@ clean_of order program tape read settled on v =
 pub texts_verified : {T E : Type 0} (order : OrderView) (program text : List ℕ) (tape : TapeView) (graph : SettledView) (read : ReadCircuit)
     (circuit : CircuitView) (r : Result T E) → LeavesTape program tape → Means order.from text read → IsSettledWithin tape order.nodes graph
     → circuit.lines ≡ line_count read → circuit.gates ≡ read.gates → AreGatesOn circuit.lines circuit.gates
-    → OnOk r (IsVerified (beside (of_tape tape) circuit order.outputs order.borrow)) → OnOk r (AreVerified order program text)
+    → OnOk r (IsVerified (comparison_with order tape circuit)) → OnOk r (AreVerified order program text)
 texts_verified {T} {E} order program text tape graph read circuit (Ok x) left means within lines gates on h =
     let settled : LeavesSettled program order.nodes tape = record { left = left; hold = within.hold } in
     let v : IsVerified (comparison_of order tape read) =
@@ -137,7 +182,7 @@ pub claims_stop : (order : OrderView) (program text : List ℕ) (tape : TapeView
 claims_stop order program text tape read fault left means h = settling_stops order program text read fault means (h.of_text program left)
 
 comparison_stops : (order : OrderView) (program text : List ℕ) (tape : TapeView) (read : ReadCircuit) (fault : Fault) → LeavesSettled program order.nodes tape
-    → Means order.from text read → IsComparingFault order.nodes fault (comparison_of order tape read) → IsPartsFault order program text fault
+    → Means order.from text read → IsComparingFault order fault (comparison_of order tape read) → IsPartsFault order program text fault
 comparison_stops order program text tape read (faults.FewLines lines need) settled means h =
     record { tape = tape; settled = settled; read = read; means = means; holds = h }
 comparison_stops order program text tape read (faults.WideGate number) settled means h =
@@ -146,18 +191,20 @@ comparison_stops order program text tape read (faults.CircuitDiagram limit) sett
     record { tape = tape; settled = settled; read = read; means = means; holds = h }
 comparison_stops order program text tape read (faults.Differs number bits) settled means h =
     record { tape = tape; settled = settled; read = read; means = means; holds = h }
+comparison_stops order program text tape read faults.Unsettled settled means h =
+    record { tape = tape; settled = settled; read = read; means = means; holds = h }
 comparison_stops order program text tape read faults.Memory settled means h = tt
 comparison_stops order program text tape read fault settled means h = absurd h
 
 pub texts_stop : {T : Type 0} (order : OrderView) (program text : List ℕ) (tape : TapeView) (graph : SettledView) (read : ReadCircuit)
     (circuit : CircuitView) (r : Result T Fault) → LeavesTape program tape → Means order.from text read → IsSettledWithin tape order.nodes graph
     → circuit.lines ≡ line_count read → circuit.gates ≡ read.gates
-    → IfErr r (λ fault. IsComparingFault order.nodes fault (beside (of_tape tape) circuit order.outputs order.borrow))
+    → IfErr r (λ fault. IsComparingFault order fault (comparison_with order tape circuit))
     → IfErr r (IsPartsFault order program text)
 texts_stop {T} order program text tape graph read circuit (Ok x) left means within lines gates h = tt
 texts_stop {T} order program text tape graph read circuit (Err fault) left means within lines gates h =
     comparison_stops order program text tape read fault (record { left = left; hold = within.hold }) means
-    (stops_circuit (of_tape tape) circuit (line_count read) (length read.gates) read.gates order.outputs order.borrow order.nodes fault lines gates h)
+    (stops_circuit (of_tape tape) circuit (line_count read) (length read.gates) read.gates order.outputs order.borrow order fault lines gates h)
 
 -- ---- a source
 

@@ -3,10 +3,12 @@ use Rattle.std.proofs.Common.{◌≡◌, ℕ, ◌<◌, Bool, List, refl, subst}
 use Rattle.mct_circuit.specs.Gates.{CircuitView, GateView}
 use Rattle.circuit_plans.specs.declared.roles.Start.{Start}
 use Rattle.circuit_verify.specs.Comparisons.{Comparison, Specification, beside}
-use Rattle.circuit_verify.specs.Verdicts.{IsVerified}
+use Rattle.circuit_verify.specs.Verdicts.{IsComparable, IsVerified}
 use Rattle.circuit_verify.proofs.TapeLemmas.{comparable_moved, differs_moved, more_moved, verified_moved}
 use Rattle.command_answers.specs.declared.fault.Fault.{Fault}
 use Rattle.command_answers.specs.declared.fault.Fault.TheVariants as faults
+use Rattle.revc_words.specs.Words.{OrderView}
+use Rattle.verify_command.specs.Verify.{DiffersAt}
 use Rattle.verify_command.specs.inside.Stages.{IsComparingFault}
 
 abbrev pub compared : Specification → ℕ → ℕ → List GateView → Start → ℕ → Comparison
@@ -22,26 +24,35 @@ module _ (program : Specification) (lines limit other : ℕ) (gates : List GateV
       verified_moved program.params program.steps program.steps program.step program.step program.outputs program.value own lines limit other gates
       start borrow
 
-  pub stops_same : (nodes : ℕ) (fault : Fault) → IsComparingFault nodes fault (compared program lines limit gates start borrow)
-      → IsComparingFault nodes fault (compared program lines other gates start borrow)
-  stops_same nodes (faults.FewLines lines need) h = h
-  stops_same nodes (faults.WideGate number) h = record { enough = h.enough; before = h.before; first = h.first; count = h.count }
-  stops_same nodes (faults.CircuitDiagram most) h = (
-    comparable_moved program.params program.steps program.steps program.step program.step program.outputs program.value own lines limit other gates
-        start borrow h.0,
-    more_moved program.params program.steps program.steps program.step program.step program.outputs program.value own lines limit other gates
-        start borrow nodes h.1,
-    h.2,
-  )
-  stops_same nodes (faults.Differs number bits) h = record {
-    comparable = comparable_moved program.params program.steps program.steps program.step program.step program.outputs program.value own lines limit other
-        gates start borrow h.comparable;
+  comparable_same : IsComparable (compared program lines limit gates start borrow) → IsComparable (compared program lines other gates start borrow)
+  comparable_same =
+      comparable_moved program.params program.steps program.steps program.step program.step program.outputs program.value own lines limit other gates
+      start borrow
+
+  differs_same : (number : ℕ) (bits : List Bool) → DiffersAt (compared program lines limit gates start borrow) number bits
+      → DiffersAt (compared program lines other gates start borrow) number bits
+  differs_same number bits h = record {
+    comparable = comparable_same h.comparable;
     before = h.before;
     first = differs_moved program.params program.steps program.steps program.step program.step program.outputs program.value own lines limit other gates
         start borrow h.before bits h.first;
     count = h.count;
   }
-  stops_same nodes fault h = h
+
+  pub stops_same : (order : OrderView) (fault : Fault) → IsComparingFault order fault (compared program lines limit gates start borrow)
+      → IsComparingFault order fault (compared program lines other gates start borrow)
+  stops_same order (faults.FewLines lines need) h = h
+  stops_same order (faults.WideGate number) h = record { enough = h.enough; before = h.before; first = h.first; count = h.count }
+  stops_same order (faults.CircuitDiagram most) h = (
+    h.0,
+    comparable_same h.1,
+    more_moved program.params program.steps program.steps program.step program.step program.outputs program.value own lines limit other gates
+        start borrow order.nodes h.2,
+    h.3,
+  )
+  stops_same order (faults.Differs number bits) h = (h.0, differs_same number bits h.1)
+  stops_same order faults.Unsettled h = (h.0, comparable_same h.1)
+  stops_same order fault h = h
 
 -- the same of a circuit with these lines and gates
 pub verified_circuit : (program : Specification) (circuit : CircuitView) (lines limit : ℕ) (gates : List GateView) (start : Start) (borrow : ℕ)
@@ -52,10 +63,10 @@ verified_circuit program circuit lines limit gates start borrow l g h =
     (subst (λ n. IsVerified (compared program n limit circuit.gates start borrow)) l
     (verified_same program circuit.lines circuit.limit limit circuit.gates start borrow h))
 
-pub stops_circuit : (program : Specification) (circuit : CircuitView) (lines limit : ℕ) (gates : List GateView) (start : Start) (borrow nodes : ℕ)
-    (fault : Fault) → circuit.lines ≡ lines → circuit.gates ≡ gates → IsComparingFault nodes fault (beside program circuit start borrow)
-    → IsComparingFault nodes fault (compared program lines limit gates start borrow)
-stops_circuit program circuit lines limit gates start borrow nodes fault l g h =
-    subst (λ gs. IsComparingFault nodes fault (compared program lines limit gs start borrow)) g
-    (subst (λ n. IsComparingFault nodes fault (compared program n limit circuit.gates start borrow)) l
-    (stops_same program circuit.lines circuit.limit limit circuit.gates start borrow nodes fault h))
+pub stops_circuit : (program : Specification) (circuit : CircuitView) (lines limit : ℕ) (gates : List GateView) (start : Start) (borrow : ℕ)
+    (order : OrderView) (fault : Fault) → circuit.lines ≡ lines → circuit.gates ≡ gates → IsComparingFault order fault (beside program circuit start borrow)
+    → IsComparingFault order fault (compared program lines limit gates start borrow)
+stops_circuit program circuit lines limit gates start borrow order fault l g h =
+    subst (λ gs. IsComparingFault order fault (compared program lines limit gs start borrow)) g
+    (subst (λ n. IsComparingFault order fault (compared program n limit circuit.gates start borrow)) l
+    (stops_same program circuit.lines circuit.limit limit circuit.gates start borrow order fault h))

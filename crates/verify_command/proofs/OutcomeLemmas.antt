@@ -22,14 +22,14 @@ use Rattle.revs_parser.specs.declared.limits.TheConstants.{MOST_BYTES}
 use Rattle.revs_tape.specs.Tapes.{TapeView}
 use Rattle.verify_command.specs.declared.limits.TheConstants.{MOST_SOURCE_BYTES}
 use Rattle.verify_command.specs.Parting.{HasNoPart}
-use Rattle.verify_command.specs.Verify.{AreVerified, Compares, DiffersAt, HasParts, HasWideGate}
-use Rattle.verify_command.specs.Verify.{IsCause, IsCircuitDiagram, IsNoCircuitDiagram, IsVerifiedWithin}
+use Rattle.verify_command.specs.Verify.{AreVerified, Compares, DiffersAt, HasDiagrams, HasParts, HasWideGate}
+use Rattle.verify_command.specs.Verify.{IsCause, IsVerifiedWithin, LeavesNothingOpen, LeavesOpen}
 use Rattle.verify_command.specs.Verify.{StopsComparing, StopsParts, comparison_of, promise}
 use Rattle.verify_command.proofs.PartingLemmas.{one_way}
 
 -- the exact fault is the other one, or that may come in its place
 abbrev pub OneOf : Fault → Fault → Type 0
-OneOf exact fault = (exact ≡ fault) ⊎ IsCircuitDiagram fault
+OneOf exact fault = (exact ≡ fault) ⊎ LeavesOpen fault
 
 -- two stages, each of which stops or is passed
 pub meet : {A B C D R : Type 0} → A ⊎ B → C ⊎ D → (A → C → R) → (A → D → ⊥) → (B → C → ⊥) → (B → D → R) → R
@@ -63,40 +63,46 @@ few_or_enough q lines need few enough =
     let least = few.2 in
     omega arith
 
-one_comparing : (nodes : ℕ) (q : Comparison) (fault exact : Fault) → StopsComparing nodes fault q → StopsComparing nodes exact q → IsNoCircuitDiagram exact
-    → OneOf exact fault
-one_comparing nodes q (faults.CircuitDiagram limit) exact a b is = inr tt
-one_comparing nodes q fault (faults.CircuitDiagram limit) a b is = absurd is
-one_comparing nodes q (faults.FewLines lines need) (faults.FewLines other most) a b is =
+one_comparing : (order : OrderView) (q : Comparison) (fault exact : Fault) → StopsComparing order fault q → StopsComparing order exact q
+    → LeavesNothingOpen exact → OneOf exact fault
+one_comparing order q (faults.CircuitDiagram limit) exact a b is = inr tt
+one_comparing order q faults.Unsettled exact a b is = inr tt
+one_comparing order q fault (faults.CircuitDiagram limit) a b is = absurd is
+one_comparing order q fault faults.Unsettled a b is = absurd is
+one_comparing order q (faults.FewLines lines need) (faults.FewLines other most) a b is =
     inl (one_few_lines other most lines need (b.0 ∙ sym a.0) (b.2 ∙ sym a.2))
-one_comparing nodes q (faults.FewLines lines need) (faults.WideGate number) a b is = absurd (few_or_enough q lines need a b.enough)
-one_comparing nodes q (faults.FewLines lines need) (faults.Differs number bits) a b is = absurd (few_or_enough q lines need a b.comparable.lines)
-one_comparing nodes q (faults.WideGate number) (faults.FewLines lines need) a b is = absurd (few_or_enough q lines need b a.enough)
-one_comparing nodes q (faults.WideGate number) (faults.WideGate other) a b is = inl (ap (λ n. faults.WideGate n) (one_wide q other number b a))
-one_comparing nodes q (faults.WideGate number) (faults.Differs other bits) a b is =
-    absurd ((comparisons_end_in_one_way q).no_gate a.before b.comparable.narrow a.first)
-one_comparing nodes q (faults.Differs number bits) (faults.FewLines lines need) a b is = absurd (few_or_enough q lines need b a.comparable.lines)
-one_comparing nodes q (faults.Differs number bits) (faults.WideGate other) a b is =
-    absurd ((comparisons_end_in_one_way q).no_gate b.before a.comparable.narrow b.first)
-one_comparing nodes q (faults.Differs number bits) (faults.Differs other others) a b is = inl (one_difference q other number others bits b a)
-one_comparing nodes q (faults.FewLines lines need) exact a b is = absurd b
-one_comparing nodes q (faults.WideGate number) exact a b is = absurd b
-one_comparing nodes q (faults.Differs line bits) exact a b is = absurd b
-one_comparing nodes q fault exact a b is = absurd a
+one_comparing order q (faults.FewLines lines need) (faults.WideGate number) a b is = absurd (few_or_enough q lines need a b.enough)
+one_comparing order q (faults.FewLines lines need) (faults.Differs number bits) a b is = absurd (few_or_enough q lines need a b.1.comparable.lines)
+one_comparing order q (faults.WideGate number) (faults.FewLines lines need) a b is = absurd (few_or_enough q lines need b a.enough)
+one_comparing order q (faults.WideGate number) (faults.WideGate other) a b is = inl (ap (λ n. faults.WideGate n) (one_wide q other number b a))
+one_comparing order q (faults.WideGate number) (faults.Differs other bits) a b is =
+    absurd ((comparisons_end_in_one_way q).no_gate a.before b.1.comparable.narrow a.first)
+one_comparing order q (faults.Differs number bits) (faults.FewLines lines need) a b is = absurd (few_or_enough q lines need b a.1.comparable.lines)
+one_comparing order q (faults.Differs number bits) (faults.WideGate other) a b is =
+    absurd ((comparisons_end_in_one_way q).no_gate b.before a.1.comparable.narrow b.first)
+one_comparing order q (faults.Differs number bits) (faults.Differs other others) a b is = inl (one_difference q other number others bits b.1 a.1)
+one_comparing order q (faults.FewLines lines need) exact a b is = absurd b
+one_comparing order q (faults.WideGate number) exact a b is = absurd b
+one_comparing order q (faults.Differs line bits) exact a b is = absurd b
+one_comparing order q fault exact a b is = absurd a
 
-verified_or_stopped : (nodes : ℕ) (q : Comparison) (fault : Fault) → IsVerified q → StopsComparing nodes fault q → IsNoCircuitDiagram fault → ⊥
-verified_or_stopped nodes q (faults.CircuitDiagram limit) v stops is = is
-verified_or_stopped nodes q (faults.FewLines lines need) v stops is = few_or_enough q lines need stops v.comparable.lines
-verified_or_stopped nodes q (faults.WideGate number) v stops is = (comparisons_end_in_one_way q).no_gate stops.before v.comparable.narrow stops.first
-verified_or_stopped nodes q (faults.Differs number bits) v stops is = (comparisons_end_in_one_way q).no_difference stops.before bits v.agrees stops.first
-verified_or_stopped nodes q fault v stops is = stops
+verified_or_stopped : (order : OrderView) (q : Comparison) (fault : Fault) → IsVerified q → StopsComparing order fault q → LeavesNothingOpen fault → ⊥
+verified_or_stopped order q (faults.CircuitDiagram limit) v stops is = is
+verified_or_stopped order q faults.Unsettled v stops is = is
+verified_or_stopped order q (faults.FewLines lines need) v stops is = few_or_enough q lines need stops v.comparable.lines
+verified_or_stopped order q (faults.WideGate number) v stops is = (comparisons_end_in_one_way q).no_gate stops.before v.comparable.narrow stops.first
+verified_or_stopped order q (faults.Differs number bits) v stops is =
+    (comparisons_end_in_one_way q).no_difference stops.1.before bits v.agrees stops.1.first
+verified_or_stopped order q fault v stops is = stops
 
-served_or_stopped : (nodes : ℕ) (q : Comparison) (fault : Fault) → IsVerifiedWithin nodes q → StopsComparing nodes fault q → ⊥
-served_or_stopped nodes q (faults.CircuitDiagram limit) v stops = v.few stops.1
-served_or_stopped nodes q (faults.FewLines lines need) v stops = verified_or_stopped nodes q (faults.FewLines lines need) v.verified stops tt
-served_or_stopped nodes q (faults.WideGate number) v stops = verified_or_stopped nodes q (faults.WideGate number) v.verified stops tt
-served_or_stopped nodes q (faults.Differs number bits) v stops = verified_or_stopped nodes q (faults.Differs number bits) v.verified stops tt
-served_or_stopped nodes q fault v stops = stops
+served_or_stopped : (order : OrderView) (q : Comparison) (fault : Fault) → HasDiagrams order.way → IsVerifiedWithin order.nodes q
+    → StopsComparing order fault q → ⊥
+served_or_stopped order q (faults.CircuitDiagram limit) way v stops = v.few stops.2
+served_or_stopped order q faults.Unsettled way v stops = subst HasDiagrams stops.0 way
+served_or_stopped order q (faults.FewLines lines need) way v stops = verified_or_stopped order q (faults.FewLines lines need) v.verified stops tt
+served_or_stopped order q (faults.WideGate number) way v stops = verified_or_stopped order q (faults.WideGate number) v.verified stops tt
+served_or_stopped order q (faults.Differs number bits) way v stops = verified_or_stopped order q (faults.Differs number bits) v.verified stops tt
+served_or_stopped order q fault way v stops = stops
 
 -- ---- the stages of two parts
 
@@ -112,7 +118,7 @@ record IsUnreadBy (order : OrderView) (circuit : List ℕ) (fault : Fault) : Typ
 
 abbrev LastStage : OrderView → List ℕ → List ℕ → Fault → Type 0
 LastStage order program circuit fault =
-    StopsSettling program order.nodes fault ⊎ Compares order (StopsComparing order.nodes fault) program circuit
+    StopsSettling program order.nodes fault ⊎ Compares order (StopsComparing order fault) program circuit
 
 abbrev ReadStage : OrderView → List ℕ → List ℕ → Fault → Type 0
 ReadStage order program circuit fault =
@@ -170,11 +176,11 @@ same_two order program circuit one other a b =
     let reads = one_circuit order.from circuit a.read b.read a.means b.means in
     ap (λ t. comparison_of order t a.read) tapes ∙ ap (λ r. comparison_of order b.tape r) reads
 
-both_compared : (order : OrderView) (program circuit : List ℕ) (fault exact : Fault) → IsNoCircuitDiagram exact
-    → Compares order (StopsComparing order.nodes fault) program circuit → Compares order (StopsComparing order.nodes exact) program circuit → OneOf exact fault
+both_compared : (order : OrderView) (program circuit : List ℕ) (fault exact : Fault) → LeavesNothingOpen exact
+    → Compares order (StopsComparing order fault) program circuit → Compares order (StopsComparing order exact) program circuit → OneOf exact fault
 both_compared order program circuit fault exact is a b =
-    let same = same_two order program circuit (StopsComparing order.nodes fault) (StopsComparing order.nodes exact) a b in
-    one_comparing order.nodes (comparison_of order b.tape b.read) fault exact (subst (StopsComparing order.nodes fault) same a.holds) b.holds is
+    let same = same_two order program circuit (StopsComparing order fault) (StopsComparing order exact) a b in
+    one_comparing order (comparison_of order b.tape b.read) fault exact (subst (StopsComparing order fault) same a.holds) b.holds is
 
 left_or_refused : (program : List ℕ) (fault : Fault) (left : (tape : TapeView) × LeavesTape program tape) → IsRefusedBy program fault → ⊥
 left_or_refused program fault left r = never_refused program left.1.program r.refusal left.1.formed r.is
@@ -186,7 +192,7 @@ read_or_refused order circuit fault read u = means_or_refused order.from circuit
 same_fault : (fault exact named other : Fault) → fault ≡ named → exact ≡ other → other ≡ named → OneOf exact fault
 same_fault fault exact named other f e same = inl (e ∙ same ∙ sym f)
 
-pub one_of_parts : (order : OrderView) (program circuit : List ℕ) (fault exact : Fault) → IsNoCircuitDiagram exact → StopsParts order fault program circuit
+pub one_of_parts : (order : OrderView) (program circuit : List ℕ) (fault exact : Fault) → LeavesNothingOpen exact → StopsParts order fault program circuit
     → StopsParts order exact program circuit → OneOf exact fault
 one_of_parts order program circuit fault exact is a b =
     meet (staged order program circuit fault a) (staged order program circuit exact b)
@@ -220,7 +226,7 @@ one_of_parts order program circuit fault exact is a b =
 
 -- where the two are compared, what stops them stops the comparison
 pub compared_or_stopped : (order : OrderView) (OfTwo : Comparison → Type 0) (program circuit : List ℕ) (fault : Fault) → Compares order OfTwo program circuit
-    → ((q : Comparison) → OfTwo q → StopsComparing order.nodes fault q → ⊥) → StopsParts order fault program circuit → ⊥
+    → ((q : Comparison) → OfTwo q → StopsComparing order fault q → ⊥) → StopsParts order fault program circuit → ⊥
 compared_or_stopped order OfTwo program circuit fault c apart h = elim (staged order program circuit fault h) [
   | inl long ↦ (let short = short_program program c.tape c.settled.left in let over = long.1 in omega arith)
   | inr more ↦ at_circuit more.1
@@ -229,7 +235,7 @@ compared_or_stopped order OfTwo program circuit fault c apart h = elim (staged o
     at_last : LastStage order program circuit fault → ⊥
     at_last (inl stops) = settled_or_stopped program order.nodes c.tape fault c.settled stops
     at_last (inr other) =
-        let same = same_two order program circuit OfTwo (StopsComparing order.nodes fault) c other in
+        let same = same_two order program circuit OfTwo (StopsComparing order fault) c other in
         apart (comparison_of order other.tape other.read) (subst OfTwo same c.holds) other.holds
 
     at_read : ReadStage order program circuit fault → ⊥
@@ -274,7 +280,7 @@ same_parts source one other a b =
     let circuits = (one_way source).one_circuit a.program b.program a.circuit b.circuit a.parted b.parted in
     subst (λ c. one b.program c) circuits (subst (λ p. one p a.circuit) programs a.holds)
 
-one_cause : (order : OrderView) (source : List ℕ) (fault exact : Fault) → IsCause order source fault → IsCause order source exact → IsNoCircuitDiagram exact
+one_cause : (order : OrderView) (source : List ℕ) (fault exact : Fault) → IsCause order source fault → IsCause order source exact → LeavesNothingOpen exact
     → OneOf exact fault
 one_cause order source fault exact a b is =
     meet (source_staged order source fault a) (source_staged order source exact b)
@@ -289,7 +295,7 @@ one_cause order source fault exact a b is =
 
 -- where the parts of a source are compared, what stops it stops the comparison
 parts_or_stopped : (order : OrderView) (source : List ℕ) (OfTwo : Comparison → Type 0) (fault : Fault) → HasParts source (Compares order OfTwo)
-    → ((q : Comparison) → OfTwo q → StopsComparing order.nodes fault q → ⊥) → IsCause order source fault → ⊥
+    → ((q : Comparison) → OfTwo q → StopsComparing order fault q → ⊥) → IsCause order source fault → ⊥
 parts_or_stopped order source OfTwo fault p apart cause = elim (source_staged order source fault cause) [
   | inl long ↦ (let short = p.short in let over = long.1 in omega arith)
   | inr more ↦ at_parts more.1
@@ -306,7 +312,7 @@ as_compared order source p =
     record { short = p.short; program = p.program; circuit = p.circuit; parted = p.parted; holds = p.holds.compared }
 
 among : (order : OrderView) (source : List ℕ) (fault : Fault) → IsCause order source fault
-    → IsFaultOfText (3 ∷ 4 ∷ 5 ∷ 8 ∷ 13 ∷ 14 ∷ 15 ∷ 16 ∷ []) fault
+    → IsFaultOfText (3 ∷ 4 ∷ 5 ∷ 8 ∷ 13 ∷ 14 ∷ 15 ∷ 16 ∷ 17 ∷ []) fault
 among order source (faults.Refused refusal) cause = record { of_text = tt; status = (0, omega arith, refl) }
 among order source (faults.Claim number at bits) cause = record { of_text = tt; status = (1, omega arith, refl) }
 among order source (faults.Diagram number at limit) cause = record { of_text = tt; status = (2, omega arith, refl) }
@@ -316,15 +322,16 @@ among order source (faults.FewLines lines need) cause = record { of_text = tt; s
 among order source (faults.WideGate number) cause = record { of_text = tt; status = (5, omega arith, refl) }
 among order source (faults.Differs number bits) cause = record { of_text = tt; status = (6, omega arith, refl) }
 among order source faults.NoPart cause = record { of_text = tt; status = (7, omega arith, refl) }
+among order source faults.Unsettled cause = record { of_text = tt; status = (8, omega arith, refl) }
 among order source fault cause = absurd cause.holds.holds
 
 pub one_outcome : HasOneOutcome promise
 one_outcome = record {
   never_both = λ order source written fault given cause exact. parts_or_stopped order source IsVerified fault (as_compared order source given.0)
-      (λ q v stops. verified_or_stopped order.nodes q fault v stops exact) cause;
+      (λ q v stops. verified_or_stopped order q fault v stops exact) cause;
   one_cause = λ order source fault exact cause other is. one_cause order source fault exact cause other is;
-  free = λ order source fault served cause. parts_or_stopped order source (IsVerifiedWithin order.nodes) fault served
-      (λ q v stops. served_or_stopped order.nodes q fault v stops) cause;
+  free = λ order source fault served cause. parts_or_stopped order source (IsVerifiedWithin order.nodes) fault served.1
+      (λ q v stops. served_or_stopped order q fault served.0 v stops) cause;
   long = λ order source over. inl over;
   among = λ order source fault cause. among order source fault cause;
 }

@@ -10,13 +10,15 @@ use Rattle.command_answers.specs.Outcomes.{Promise}
 use Rattle.command_answers.specs.declared.fault.CircuitRefusal.{CircuitRefusal}
 use Rattle.command_answers.specs.declared.fault.CircuitRefusal.TheVariants as circuits
 use Rattle.command_answers.specs.declared.fault.Fault.{Fault}
-use Rattle.command_answers.specs.declared.fault.Fault.TheVariants.{Refused, Claim, Diagram, CircuitDiagram, Circuit, FewLines, WideGate, Differs, NoPart}
+use Rattle.command_answers.specs.declared.fault.Fault.TheVariants.{Refused, Claim, Diagram, CircuitDiagram, Circuit, FewLines, WideGate, Differs, Unsettled, NoPart}
 use Rattle.command_answers.specs.declared.fault.Refusal.TheVariants as refusals
 use Rattle.command_answers.specs.declared.limit.TextLimit.{TextLimit}
 use Rattle.program_commands.specs.Clean.{IsCleanCircuit}
 use Rattle.program_commands.specs.Refusals.{IsRefusal}
 use Rattle.program_commands.specs.Settling.{LeavesSettled, LeavesTape, StopsSettling}
 use Rattle.revc_words.specs.Words.{OrderView}
+use Rattle.revc_words.specs.declared.order.Way.{Way}
+use Rattle.revc_words.specs.declared.order.Way.TheVariants as ways
 use Rattle.revs_parser.specs.declared.limits.TheConstants.{MOST_BYTES}
 use Rattle.revs_tape.specs.Tapes.{TapeView}
 use Rattle.verify_command.specs.Parting.{HasNoPart, IsParted}
@@ -89,16 +91,23 @@ pub record DiffersAt (q : Comparison) (number : ℕ) (bits : List Bool) : Type 0
   pub first : DiffersFirst q before bits
   pub count : number ≡ before + 1
 
--- why a circuit is not verified: it has too few lines or a wide gate, the two have more functions than the nodes, or it
--- differs
-abbrev pub StopsComparing : ℕ → Fault → Comparison → Type 0
-StopsComparing nodes (FewLines lines need) q =
+-- by this way a circuit is compared by diagrams, at once or where sums leave it unsettled
+abbrev pub HasDiagrams : Way → Type 0
+HasDiagrams ways.Diagrams = Unit {0}
+HasDiagrams ways.Sums = ⊥
+HasDiagrams ways.Both = Unit {0}
+
+-- Why a circuit is not verified: it has too few lines or a wide gate; by diagrams, the two have more functions than the
+-- nodes, or it differs; by sums alone, it is not settled.
+abbrev pub StopsComparing : OrderView → Fault → Comparison → Type 0
+StopsComparing order (FewLines lines need) q =
     (lines ≡ q.circuit.lines) × (lines < need) × (need ≡ least_lines q)
-StopsComparing nodes (WideGate number) q = HasWideGate q number
-StopsComparing nodes (CircuitDiagram limit) q =
-    IsComparable q × HasMore q nodes × (limit ≡ nodes)
-StopsComparing nodes (Differs number bits) q = DiffersAt q number bits
-StopsComparing nodes _ q = ⊥
+StopsComparing order (WideGate number) q = HasWideGate q number
+StopsComparing order (CircuitDiagram limit) q =
+    HasDiagrams order.way × IsComparable q × HasMore q order.nodes × (limit ≡ order.nodes)
+StopsComparing order (Differs number bits) q = HasDiagrams order.way × DiffersAt q number bits
+StopsComparing order Unsettled q = (order.way ≡ ways.Sums) × IsComparable q
+StopsComparing order _ q = ⊥
 
 -- the program leaves a tape, and the circuit is refused
 abbrev pub IsRefusedCircuit : OrderView → CircuitRefusal → List ℕ → List ℕ → Type 0
@@ -125,7 +134,7 @@ StopsParts order (Claim number at bits) program circuit =
 StopsParts order (Diagram number at limit) program circuit =
     StopsAtClaim order (Diagram number at limit) program circuit
 StopsParts order fault program circuit =
-    Compares order (StopsComparing order.nodes fault) program circuit
+    Compares order (StopsComparing order fault) program circuit
 
 -- the source is too long, or has no parting line, or its parts are not verified
 abbrev pub IsCause : OrderView → List ℕ → Fault → Type 0
@@ -137,32 +146,36 @@ IsCause order source fault = HasParts source (StopsParts order fault)
 
 -- ---- where something is
 
--- the circuit agrees, and the two have no more functions than the nodes
+-- the circuit agrees, and the two have no more functions than the nodes of diagrams
 pub record IsVerifiedWithin (nodes : ℕ) (q : Comparison) : Type 0 where
   pub verified : IsVerified q
   pub few : ¬ HasMore q nodes
 
 abbrev pub Serves : OrderView → List ℕ → Type 0
-Serves order source = HasParts source (Compares order (IsVerifiedWithin order.nodes))
+Serves order source =
+    HasDiagrams order.way × HasParts source (Compares order (IsVerifiedWithin order.nodes))
 
 -- ---- what is promised
 
--- the functions are counted for the steps of the tape: fewer may be made, so a circuit with more may have another end
-abbrev pub IsNoCircuitDiagram : Fault → Type 0
-IsNoCircuitDiagram (CircuitDiagram limit) = ⊥
-IsNoCircuitDiagram fault = Unit {0}
+-- The fault leaves open whether the circuit agrees. The functions are counted for the steps of the tape: fewer may be
+-- made, so a circuit with more may have another end; and sums may settle any circuit that agrees.
+abbrev pub LeavesOpen : Fault → Type 0
+LeavesOpen (CircuitDiagram limit) = Unit {0}
+LeavesOpen Unsettled = Unit {0}
+LeavesOpen fault = ⊥
 
-abbrev pub IsCircuitDiagram : Fault → Type 0
-IsCircuitDiagram (CircuitDiagram limit) = Unit {0}
-IsCircuitDiagram fault = ⊥
+abbrev pub LeavesNothingOpen : Fault → Type 0
+LeavesNothingOpen (CircuitDiagram limit) = ⊥
+LeavesNothingOpen Unsettled = ⊥
+LeavesNothingOpen fault = Unit {0}
 
 abbrev pub promise : Promise
 promise = record {
   reads = Some source_limit;
-  statuses = 3 ∷ 4 ∷ 5 ∷ 8 ∷ 13 ∷ 14 ∷ 15 ∷ 16 ∷ [];
+  statuses = 3 ∷ 4 ∷ 5 ∷ 8 ∷ 13 ∷ 14 ∷ 15 ∷ 16 ∷ 17 ∷ [];
   Gives = Gives;
   IsCause = IsCause;
   Serves = Serves;
-  IsExact = IsNoCircuitDiagram;
-  MayPrecede = IsCircuitDiagram;
+  IsExact = LeavesNothingOpen;
+  MayPrecede = LeavesOpen;
 }

@@ -4,6 +4,7 @@
 mod comparing;
 mod limits;
 mod parting;
+mod sums;
 pub mod verify;
 
 pub use limits::{MOST_SOURCE_BYTES, limits_are};

@@ -23,7 +23,7 @@ use revs_parser::MOST_BYTES;
 use std::alloc::Global;
 
 /// What `verify` gives, its exact causes and where it serves exclude one another. Only the limit of
-/// nodes may come in the place of another cause.
+/// nodes, and that sums leave a circuit unsettled, may come in the place of another cause.
 pub fn one_outcome()
     ensures { HasOneOutcome promise }
 {}
@@ -42,8 +42,9 @@ pub fn source_limit() -> TextLimit
 /// lines hold that the order lets them hold, with 0 on the work lines and whatever the borrowed
 /// lines hold, the outputs are added to the output lines, and every other line is left as it was.
 /// The lines are those of the inputs, then those of the outputs, then the work lines, then the
-/// borrowed ones. A fault is exactly that of the source, of a part or of the two, or want of
-/// memory.
+/// borrowed ones. The way of the order says how the two are compared: it serves where that is not
+/// by sums alone. A fault is exactly that of the source, of a part or of the two, or want of
+/// memory, or that sums alone leave the circuit unsettled.
 pub fn verify(alloc: Global, source: &[u8], order: &Order) -> Result<(), Fault>
     requires short { length source.now ≤ MOST_SOURCE_BYTES }
     requires limits { IsWithinLimits (order_of order.now) }
@@ -86,8 +87,7 @@ fn verify_texts(alloc: Global, program: &[u8], circuit: &[u8], order: &Order) ->
     let circuit = read.circuit();
     // This call says that the gates stand on the lines.
     let _ = circuit.lines();
-    let (start, borrow) = (values.outputs, values.borrow);
-    compare(alloc, &tape, &graph, circuit, start, borrow, values.nodes)
+    compare(alloc, &tape, &graph, circuit, order)
 }
 
 /// Writes that a circuit is verified. It takes no memory.

@@ -1,16 +1,28 @@
 -- Why two parts of a source are not verified, or there was no memory left.
-use Rattle.std.specs.Prelude.{ℕ, List}
-use Rattle.circuit_verify.specs.Comparisons.{Comparison}
+use Rattle.std.specs.Prelude.{ℕ, Bool, true, false, List}
+use Rattle.circuit_verify.specs.Comparisons.{Comparison, beside, of_tape}
+use Rattle.circuit_verify.specs.Verdicts.{IsComparable, IsVerified}
 use Rattle.command_answers.specs.declared.fault.Fault.{Fault}
 use Rattle.command_answers.specs.declared.fault.Fault.TheVariants.{Memory}
+use Rattle.mct_circuit.specs.Gates.{CircuitView}
 use Rattle.revc_words.specs.Words.{OrderView}
+use Rattle.revs_tape.specs.Tapes.{TapeView}
 use Rattle.verify_command.specs.Verify.{StopsComparing, StopsParts}
 
 abbrev pub IsPartsFault : OrderView → List ℕ → List ℕ → Fault → Type 0
 IsPartsFault order program circuit Memory = Unit {0}
 IsPartsFault order program circuit fault = StopsParts order fault program circuit
 
--- the same of a comparison
-abbrev pub IsComparingFault : ℕ → Fault → Comparison → Type 0
-IsComparingFault nodes Memory q = Unit {0}
-IsComparingFault nodes fault q = StopsComparing nodes fault q
+-- a circuit beside the tape of a program, as the order asks
+abbrev pub comparison_with : OrderView → TapeView → CircuitView → Comparison
+comparison_with order tape circuit = beside (of_tape tape) circuit order.outputs order.borrow
+
+-- why the two are not verified, or there was no memory left
+abbrev pub IsComparingFault : OrderView → Fault → Comparison → Type 0
+IsComparingFault order Memory q = Unit {0}
+IsComparingFault order fault q = StopsComparing order fault q
+
+-- sums verify a circuit, or leave one that can be compared unsettled
+abbrev pub SumsSay : Bool → Comparison → Type 0
+SumsSay true q = IsVerified q
+SumsSay false q = IsComparable q

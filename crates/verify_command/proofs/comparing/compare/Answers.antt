@@ -1,7 +1,8 @@
-use Rattle.verify_command.proofs.ComparingLemmas.{tape_stops}
+use Rattle.std.proofs.Common.{sym, subst}
+use Rattle.revc_words.specs.Words.{order_of}
+use Rattle.verify_command.specs.Verify.{HasDiagrams}
+use Rattle.verify_command.specs.inside.Stages.{SumsSay, comparison_with}
 use Rattle.verify_command.proofs.comparing.compare.Goals as goal
 
-pub returns-in-Err-clause-err : goal.returns-in-Err-clause-err
-returns-in-Err-clause-err c =
-    tape_stops c.args.tape.now c.args.graph.now c.params.result.now c.args.circuit.now c.args.start c.args.borrow c.args.nodes c.in-Err.fault c.comparing_fault.result
-    c.params.ensures.params c.requires.settled c.comparing_fault.ensures c.in-Err.ensures.refused
+pub by_diagrams-requires-clause-way : goal.by_diagrams-requires-clause-way
+by_diagrams-requires-clause-way c = subst HasDiagrams (sym c.in-Diagrams.is) tt
