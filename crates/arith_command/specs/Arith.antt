@@ -18,6 +18,7 @@ use Rattle.revc_words.specs.declared.commands.Command.TheVariants.{Compile}
 use Rattle.revc_words.specs.declared.limits.TheConstants.{USUAL_LINES, USUAL_GATES, USUAL_NODES}
 use Rattle.revc_words.specs.declared.order.Format.{Format}
 use Rattle.revc_words.specs.declared.order.Format.TheVariants as formats
+use Rattle.revc_words.specs.declared.order.Way.TheVariants.{Diagrams}
 use Rattle.revc_words.specs.declared.order.Write.{Write}
 use Rattle.revc_words.specs.declared.order.Write.TheVariants.{Program, Real, Qasm}
 
@@ -35,6 +36,7 @@ compile_order format = record {
   borrow = 0;
   nodes = USUAL_NODES;
   outputs = Zero;
+  way = Diagrams;
   format = format;
   from = formats.Real;
   to = formats.Qasm;
