@@ -106,7 +106,7 @@ WHOLE = [
         0xe531d45d, 0xf404c6fb, 0x23a0bf99, 0xf1f8452f, 0x51ffd042, 0xe539f578, 0xf00b80a7, 0xaf973664, 0xbf5af34c,
         0x227a2424, 0x88172715, 0x9f685884, 0xb15cd054, 0x1bf4fc0e, 0x6166fa91, 0x1a9e599a, 0xa3970a1f, 0xab659687,
         0xafab8d68, 0xe74b1015, 0x34001a98, 0x4119eff3, 0x930a0e76, 0x87b28070, 0x11efe996])],
-          lines=(8992, 6592)),
+          lines=(8992, 7141)),
     Whole(aes128, "AES-128", [
         (dict(key=lowest_first(KEY), text=lowest_first(PLAIN)), in_bytes("69c4e0d86a7b0430d8cdb78070b4c55a")),
         (dict(key=lowest_first("2b7e151628aed2a6abf7158809cf4f3c"), text=lowest_first("3243f6a8885a308d313198a2e0370734")),

@@ -166,7 +166,7 @@ def do_stat(options: argparse.Namespace) -> None:
 
 def do_verify(options: argparse.Namespace) -> None:
     source = source_of(options.program)
-    print(source.verify(circuit_text(options.circuit), options.nodes, options.borrow))
+    print(source.verify(circuit_text(options.circuit), options.nodes, options.borrow, options.by))
 
 
 def do_convert(options: argparse.Namespace) -> None:
@@ -237,6 +237,7 @@ def parser() -> Parser:
     one = command("verify", do_verify, "prove that a circuit computes a program on every input", "program", "circuit")
     one.add_argument("--nodes", type=int, default=1000000, help="the most functions (1000000)")
     one.add_argument("--borrow", type=int, default=0, help="how many lines, the last ones, are borrowed")
+    one.add_argument("--by", default="both", metavar="WAY", help="sums, diagrams, or both (both: sums come first)")
     for name, help_ in (("convert", "write a circuit by X, CX and CCX gates alone"),
                         ("tidy", "the same with gates taken out that cancel, and short runs of CX gates")):
         one = command(name, do_convert, help_, "circuit")

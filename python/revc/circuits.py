@@ -125,11 +125,11 @@ class Circuit:
                 answers.append(self.source.value(out))
         return answers
 
-    def verify(self, text: Union["Source", str, None] = None, nodes: int = 1000000) -> str:
+    def verify(self, text: Union["Source", str, None] = None, nodes: int = 1000000, by: str = "both") -> str:
         """Prove that the circuit computes a program, a text of Revs or another oracle, on every input."""
         from .sources import Source
         source = self.source if text is None else text if isinstance(text, Source) else Source(text)
-        return source.verify(self, nodes)
+        return source.verify(self, nodes, by=by)
 
     # ---- Files
 

@@ -51,6 +51,8 @@ ANSWERS = [  # the program's other messages
                                      "or claim smaller parts one by one"),
     (r"circuit passes (\d+) nodes", "the circuit's lines come to more than {0} functions: give more, nodes=1000000 "
                                     "(--nodes), or verify parts of it"),
+    (r"circuit is not settled by sums", "it may compute the program or not: take by=\"both\" (--by both), which goes on by "
+                                        "diagrams"),
     (r"more than (\d+) gates", "the circuit has more than {0} gates: give more, gates=4000000 (--gates) at most, or more "
                                "lines, or the plan `lean`"),
     (r"circuit over", "a circuit has at most 134,217,728 bytes"),

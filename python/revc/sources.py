@@ -9,6 +9,7 @@ from .errors import Refused, RevcError, WidthError
 from .names import Place
 
 LINES, GATES, NODES = 16384, 4000000, 100000  # the greatest budgets, and the usual nodes
+WAYS = ("both", "sums", "diagrams")  # by which a circuit is verified
 
 
 class Source:
@@ -127,11 +128,16 @@ class Source:
         """Prove all claims for all inputs; how many there are. The first that fails is raised, with its least input."""
         return int(self.ask(["check", "--nodes", str(nodes)]).split()[1])
 
-    def verify(self, circuit: Union[Circuit, str], nodes: int = 1000000, borrow: int = 0) -> str:
-        """Prove that a circuit from elsewhere, a `.real` or OpenQASM text, computes this on every input."""
+    def verify(self, circuit: Union[Circuit, str], nodes: int = 1000000, borrow: int = 0, by: str = "both") -> str:
+        """Prove that a circuit from elsewhere, a `.real` or OpenQASM text, computes this on every input.
+
+        `by` is "both", sums of products and then diagrams of at most so many nodes, or one of "sums" and "diagrams"."""
         text = circuit.real if isinstance(circuit, Circuit) else circuit
         borrow = circuit.borrowed if isinstance(circuit, Circuit) else borrow
-        words = ["verify", "--from", form_of(text), "--nodes", str(nodes)] + (["--borrow", str(borrow)] if borrow else [])
+        if by not in WAYS:
+            raise RevcError("no way `%s`: %s" % (by, ", ".join(WAYS)))
+        words = ["verify", "--from", form_of(text), "--nodes", str(nodes), "--by", by]
+        words += ["--borrow", str(borrow)] if borrow else []
         return self.ask(words, text).decode().strip()
 
     def costs(self, plans: Optional[Sequence[str]] = None, points: int = 6) -> Any:
