@@ -1,6 +1,7 @@
 -- Sources and sinks in memory, as contracts see them.
-use Rattle.std.specs.Prelude.{◌≡◌, ℕ, ◌+◌, ◌-◌, ◌^◌, ◌<◌, min, List, length, Contains}
+use Rattle.std.specs.Prelude.{◌≡◌, ℕ, ◌+◌, ◌-◌, ◌^◌, ◌<◌, ◌≤◌, min, Bool, IsTrue, List, length, Contains, Some}
 use Rattle.revc_io.specs.Faults.{raised}
+use Rattle.revc_io.specs.Held.{Held}
 
 -- ---- calls
 
@@ -23,6 +24,11 @@ counted calls = record calls { made = raised calls.made }
 abbrev pub failed : CallsView → CallsView
 failed calls = record (counted calls) { faults = raised calls.faults }
 
+-- no call from here on is one of those that fail
+pub record FailsNoMore (calls : CallsView) : Type 0 where
+  pub each : (number : ℕ) → calls.made < number → number < 2 ^ 64
+      → ¬ Contains calls.failing number
+
 -- ---- a source
 
 -- the bytes that are still to come, the most bytes that one call gives, and its calls
@@ -37,16 +43,30 @@ given_of source len = min (min source.most (length source.rest)) len
 
 -- ---- a sink
 
--- its room in bytes, the most bytes that one call takes, the bytes that it took, and its calls
+-- its room in bytes, the most bytes that one call takes, the bytes that it took, whether it was flushed since, and its calls
 pub record SinkView : Type 0 where
   pub room : ℕ
   pub most : ℕ
   pub held : List ℕ
+  pub flushed : Bool
   pub calls : CallsView
 
 -- no byte more has room
 abbrev pub IsFull : SinkView → Type 0
 IsFull sink = length sink.held ≡ sink.room
+
+-- so many bytes more have room, and no call fails
+pub record SurelyTakes (sink : SinkView) (count : ℕ) : Type 0 where
+  pub room : length sink.held + count ≤ sink.room
+  pub calm : FailsNoMore sink.calls
+
+-- what it says of itself
+abbrev pub held_by : SinkView → Held
+held_by sink = record {
+  bytes = Some sink.held;
+  takes = SurelyTakes sink;
+  flushed = IsTrue sink.flushed;
+}
 
 -- how many bytes of a piece of this length a call takes: as many as `most`, the piece and the room allow
 abbrev pub taken_of : SinkView → ℕ → ℕ

@@ -1,6 +1,6 @@
 ghost use Rattle.std.specs.Prelude.{◌≡◌, ◌+◌, ◌<◌, ◌≤◌, ◌++◌, [], length, ℕ, List, take};
 ghost use Rattle.revc_io.specs.Faults.{HasCause};
-ghost use Rattle.revc_io.specs.Passing.{Gathers, Writes};
+ghost use Rattle.revc_io.specs.Passing.{Gathers, Sends, Writes};
 
 use crate::{Failed, Sink, put_all};
 use std::marker::Model;
@@ -55,7 +55,7 @@ impl Buffer {
 
     // Hands on all that waits.
     fn hand_on<K: Sink>(&mut self, out: &mut K) -> Result<(), Failed>
-        ensures bytes { Writes result (K.held out.old) (K.held out.new) self.old }
+        ensures bytes { Sends result (K.held out.old) (K.held out.new) self.old }
         ensures empty { self.new ≡ [] }
         ensures cause { HasCause (K.faults out.old) (K.faults out.new) result }
     {

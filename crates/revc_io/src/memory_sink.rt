@@ -1,9 +1,10 @@
-ghost use Rattle.std.specs.Prelude.{◌≡◌, ◌↔◌, ◌⊎◌, ◌<◌, ◌≤◌, ◌++◌, [], length, take, Some, IfOk};
+ghost use Rattle.std.specs.Prelude.{◌≡◌, ◌↔◌, ◌⊎◌, ◌<◌, ◌≤◌, ◌++◌, [], length, take, true, false, IfOk};
 ghost use Rattle.std.specs.Prelude.{IsErr, MatchResult, vec_len, vec_capacity};
 ghost use Rattle.std.specs.Io.{WritesAtMost};
-ghost use Rattle.std.specs.Io.KnownBytes.{Keeps, WriteAppends};
 ghost use Rattle.revc_io.specs.Faults.{HasCause};
-ghost use Rattle.revc_io.specs.Memory.{FailsNext, IsFull, counted, failed, taken_of, SinkView};
+ghost use Rattle.revc_io.specs.Held.{Flushes, WritesSome};
+ghost use Rattle.revc_io.specs.Memory.{FailsNext, IsFull, counted, failed, held_by, taken_of};
+ghost use Rattle.revc_io.specs.Memory.{SinkView};
 
 use crate::calls::Calls;
 use crate::{Failed, Sink};
@@ -12,13 +13,15 @@ use std::alloc::Global;
 use std::marker::Model;
 
 /// A sink in memory with a fixed room. It fails at chosen calls, and where its room is full.
-/// Contracts see its room, the most bytes that a call takes, the bytes that it took, and its calls
-/// of `write` and `flush`, which are counted together.
+/// Contracts see its room, the most bytes that a call takes, the bytes that it took, whether it was
+/// flushed since it took the last of them, and its calls of `write` and `flush`, which are counted
+/// together.
 #[derive(Drop)]
 pub struct MemorySink {
     bytes: Vec<u8>,
     room: usize,
     most: usize,
+    is_flushed: bool,
     calls: Calls,
 }
 
@@ -29,6 +32,7 @@ impl Model for MemorySink {
       room = s.room;
       most = s.most;
       held = s.bytes.items;
+      flushed = s.is_flushed;
       calls = s.calls;
     } };
 
@@ -51,6 +55,7 @@ impl MemorySink {
           room = room;
           most = most;
           held = [];
+          flushed = true;
           calls = record {
             failing = failing.items;
             made = 0;
@@ -62,6 +67,7 @@ impl MemorySink {
             bytes: Vec::with_capacity(alloc, room)?,
             room,
             most,
+            is_flushed: true,
             calls: Calls::new(failing),
         })
     }
@@ -75,7 +81,7 @@ impl MemorySink {
 }
 
 impl Sink for MemorySink {
-    ghost held = { λ s. Some s.held };
+    ghost held = { held_by };
 
     ghost faults = { λ s. s.calls.faults };
 
@@ -83,13 +89,16 @@ impl Sink for MemorySink {
         requires { 0 < length piece.now }
         ensures bound { WritesAtMost result piece.now }
         ensures some { IfOk result (λ count. 1 ≤ count) }
-        ensures bytes { WriteAppends (Some self.old.held) (Some self.new.held) result piece.now }
+        ensures bytes { WritesSome result (held_by self.old) (held_by self.new) piece.now }
         ensures cause { HasCause self.old.calls.faults self.new.calls.faults result }
         ensures fails { IsErr result ↔ (FailsNext self.old.calls ⊎ IsFull self.old) }
         ensures takes { IfOk result (λ count. count ≡ taken_of self.old (length piece.now)) }
         ensures after { MatchResult result
-            (λ count. self.new ≡ record self.old
-            { held = self.old.held ++ take count piece.now; calls = counted self.old.calls })
+            (λ count. self.new ≡ record self.old {
+              held = self.old.held ++ take count piece.now;
+              flushed = false;
+              calls = counted self.old.calls;
+            })
             (λ _. self.new ≡ record self.old { calls = failed self.old.calls }) }
     {
         let fails = self.calls.fails_now();
@@ -99,6 +108,7 @@ impl Sink for MemorySink {
             return Err(Failed);
         }
         let count = self.most.min(piece.len()).min(room);
+        self.is_flushed = false;
         match self.bytes.extend_from_slice(&piece[..count]) {
             Ok(()) => Ok(count),
             Err(_) => unreachable!(),
@@ -106,17 +116,18 @@ impl Sink for MemorySink {
     }
 
     fn flush(&mut self) -> Result<(), Failed>
-        ensures bytes { Keeps (Some self.old.held) (Some self.new.held) }
+        ensures bytes { Flushes result (held_by self.old) (held_by self.new) }
         ensures cause { HasCause self.old.calls.faults self.new.calls.faults result }
         ensures fails { IsErr result ↔ FailsNext self.old.calls }
         ensures after { MatchResult result
-            (λ _. self.new ≡ record self.old { calls = counted self.old.calls })
+            (λ _. self.new ≡ record self.old { flushed = true; calls = counted self.old.calls })
             (λ _. self.new ≡ record self.old { calls = failed self.old.calls }) }
     {
         if self.calls.fails_now() {
             self.calls.fail();
             return Err(Failed);
         }
+        self.is_flushed = true;
         Ok(())
     }
 }

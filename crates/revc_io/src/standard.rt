@@ -1,6 +1,7 @@
 // The adapters over the readers and writers of the standard library.
 ghost use Rattle.std.specs.Prelude.{◌≡◌, ◌≤◌};
 ghost use Rattle.revc_io.specs.Faults.{raised};
+ghost use Rattle.revc_io.specs.Held.{bytes_alone};
 
 use crate::{Failed, Sink, Source};
 use std::io::{Read, Write};
@@ -39,7 +40,7 @@ impl<R: Read> Source for StdSource<R> {
 
 /// A sink over any writer of the standard library. It raises its count of faults at each error of
 /// the writer, and where the writer took nothing of a piece that is not empty. It tells its bytes
-/// where the writer does.
+/// where the writer does, and nothing else: no byte is surely taken.
 #[derive(Drop)]
 pub struct StdSink<W> {
     inner: W,
@@ -49,7 +50,7 @@ pub struct StdSink<W> {
 impl<W: Write> StdSink<W> {
     /// A sink over this writer, with no fault so far.
     pub fn new(inner: W) -> StdSink<W>
-        ensures held { ⟦<StdSink<W> as Sink>⟧.held result ≡ W.contents inner }
+        ensures held { (⟦<StdSink<W> as Sink>⟧.held result).bytes ≡ W.contents inner }
         ensures faults { ⟦<StdSink<W> as Sink>⟧.faults result ≡ 0 }
     {
         StdSink { inner, faults: 0 }
@@ -57,7 +58,7 @@ impl<W: Write> StdSink<W> {
 }
 
 impl<W: Write> Sink for StdSink<W> {
-    ghost held = { λ s. W.contents s.inner };
+    ghost held = { λ s. bytes_alone (W.contents s.inner) };
 
     ghost faults = { λ s. s.faults };
 

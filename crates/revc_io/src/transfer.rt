@@ -1,6 +1,6 @@
 // Whole pieces and whole texts, over any sink and any source.
 ghost use Rattle.revc_io.specs.Faults.{HasCause};
-ghost use Rattle.revc_io.specs.Passing.{Writes};
+ghost use Rattle.revc_io.specs.Passing.{Sends};
 
 use crate::{Failed, Sink};
 
@@ -8,7 +8,7 @@ use crate::{Failed, Sink};
 /// front of the piece. It takes no memory.
 #[tactic(auto, using(crate::proofs::PassingLemmas::writing))]
 pub fn put_all<K: Sink>(out: &mut K, piece: &[u8]) -> Result<(), Failed>
-    ensures bytes { Writes result (K.held out.old) (K.held out.new) piece.now }
+    ensures bytes { Sends result (K.held out.old) (K.held out.new) piece.now }
     ensures cause { HasCause (K.faults out.old) (K.faults out.new) result }
 {
     let mut rest = piece;
