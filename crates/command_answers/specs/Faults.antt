@@ -1,10 +1,9 @@
 -- The status of each fault, and the line of standard error that says it.
 use Rattle.std.specs.Prelude.{ℕ, ◌⊎◌, Bool, List, ◌++◌, Option, codes}
-use Rattle.std.specs.Io.KnownBytes.{Appends}
 use Rattle.std.specs.Fmt.{decimal}
 use Rattle.revc_base.specs.declared.place.Place.{Place}
 use Rattle.revc_io.specs.Faults.{Rose}
-use Rattle.revc_io.specs.Passing.{AppendsFront}
+use Rattle.revc_io.specs.Held.{Held, Took, TookFront}
 use Rattle.revs_terms.specs.Causes.{cause_word}
 use Rattle.command_answers.specs.Lines.{digits_of}
 use Rattle.command_answers.specs.declared.fault.Fault.{Fault}
@@ -137,7 +136,7 @@ line_of Read = codes "revc: read fault\n"
 line_of Write = codes "revc: write fault\n"
 line_of Memory = codes "revc: out of memory\n"
 
--- the sink received the whole line, or a prefix of it where its count of faults rose
-abbrev pub Receives : Option (List ℕ) → Option (List ℕ) → ℕ → ℕ → List ℕ → Type 0
+-- the sink received the whole line, and holds nothing back, or a prefix of it where its count of faults rose
+abbrev pub Receives : Held → Held → ℕ → ℕ → List ℕ → Type 0
 Receives old new before now line =
-    Appends old new line ⊎ (Rose before now × AppendsFront old new line)
+    (Took old new line × new.flushed) ⊎ (Rose before now × TookFront old new line)
