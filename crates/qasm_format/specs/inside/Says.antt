@@ -93,7 +93,8 @@ pub record ReadsSize (old new : Left) (kind : RegisterKind) (count size : ℕ) :
   pub some : 1 ≤ size
   pub room : HasRoom kind size count
 
-pub record StopsAtSize (old : Left) (kind : RegisterKind) (count : ℕ) (fault : QasmFault) : Type 0 where
+pub record StopsAtSize (old : Left) (kind : RegisterKind) (count : ℕ)
+    (fault : QasmFault) : Type 0 where
   pub says : (name : List ℕ) (said : Said) → lines_of_all said.registers ≡ count
       → IsStop old (wants (codes "[") (wants_size kind name said)) fault
 

@@ -29,7 +29,8 @@ use Rattle.real_format.specs.Real.{RealView, Place, in_header, in_gates, at_end}
 -- ---- outcomes
 
 -- go on with what was made, or stop with the refusal
-abbrev pub and_then : {A B : Type 0} → Result A LineRefusal → (A → Result B LineRefusal) → Result B LineRefusal
+abbrev pub and_then : {A B : Type 0} → Result A LineRefusal → (A → Result B LineRefusal)
+    → Result B LineRefusal
 and_then (Ok a) f = f a
 and_then (Err e) f = Err e
 
@@ -131,12 +132,14 @@ abbrev pub garbage_of : ℕ → Option Bool
 garbage_of b = if b == 45 then Some false else (if b == 49 then Some true else None)
 
 -- the marks that were read and those of the bytes that are left
-abbrev pub marks_from : {M : Type 0} → (ℕ → Option M) → List M → List ℕ → Result (List M) LineRefusal
+abbrev pub marks_from : {M : Type 0} → (ℕ → Option M) → List M → List ℕ
+    → Result (List M) LineRefusal
 marks_from f marks [] = Ok marks
 marks_from f marks (b ∷ bs) = or_form (f b) (λ mark. marks_from f (marks ++ mark ∷ []) bs)
 
 -- n marks, the one word of a list
-abbrev pub marks_of : {M : Type 0} → (ℕ → Option M) → ℕ → List (List ℕ) → Result (List M) LineRefusal
+abbrev pub marks_of : {M : Type 0} → (ℕ → Option M) → ℕ → List (List ℕ)
+    → Result (List M) LineRefusal
 marks_of f n words =
     or_form (single words) (λ word. if length word == n then marks_from f [] word else Err Form)
 
