@@ -113,7 +113,8 @@ module _ (order : OrderView) (laid : LaidView) (tape : TapeView) (s : SettledVie
     }
 
 planned : (order : OrderView) (text : List ℕ) (laid : LaidView) (tape : TapeView) (s : SettledView) (l : LeavesSettled text order.nodes tape)
-    → IsSettledWithin tape order.nodes s → IsPlanOf order.plan s (budget_of order) laid → IsCleanPlan (start_of order.plan) laid l.left.program (budget_of order)
+    → IsSettledWithin tape order.nodes s → IsPlanOf order.plan s (budget_of order) laid
+    → IsCleanPlan (start_of order.plan) laid l.left.program (budget_of order)
     → IsPlannedFor order text tape laid
 planned order text laid tape s l settled plan c =
     let lines = c.plan.lines in

@@ -2,8 +2,7 @@
 use Rattle.std.proofs.Common.{◌≡◌, ℕ, ◌+◌, ◌<◌, inl, inr, List, Some, Ok, Err, replicate, refl, sym, ap, ◌∙◌, subst, arith, length}
 use Rattle.std.specs.Prelude.{◌⊎◌, ◌↔◌, ◌≢◌, Option, IfSome, Result, IsErrOf, IsErrAnd}
 use Rattle.std.proofs.lemmas.List.{length-replicate}
-use Rattle.std.specs.Io.KnownBytes.{Appends}
-use Rattle.revc_io.specs.Passing.{AppendsFront}
+use Rattle.revc_io.specs.Held.{Held, Took, TookFront}
 use Rattle.revc_io.specs.declared.reading.ReadFault.{ReadFault}
 use Rattle.revc_io.specs.declared.reading.ReadFault.TheVariants as reading
 use Rattle.command_answers.specs.declared.fault.Fault.{Fault}
@@ -12,7 +11,7 @@ use Rattle.command_answers.specs.declared.limit.TextLimit.{TextLimit}
 use Rattle.command_answers.specs.Faults.{status_of}
 use Rattle.command_answers.specs.Outcomes.{HasOneOutcome, IsFaultOfText, IsOfText}
 use Rattle.revc_driver.specs.Commands.{Gives, IsCause, promise_of, reads_of, text_told}
-use Rattle.revc_driver.specs.Top.{EndsWell, Grows, GrowsByPrefix, IsCalm, IsReadWhole, IsStatusOfAll, Rises, Run, HoldsOfOrder, device, run_of}
+use Rattle.revc_driver.specs.Top.{EndsWell, Grows, GrowsByPrefix, IsCalm, IsReadWhole, IsStatusOfAll, Rises, Run, HoldsOfOrder, device, run_of, source_device}
 use Rattle.revc_driver.specs.inside.Ends.{Ends, Fails, IsCauseOrMemory, IsCausedBy, IsReadFrom, IsUnreadFor, Reads, Succeeds}
 use Rattle.revc_driver.specs.inside.Mappings.{reading_fault, words_fault}
 use Rattle.revc_driver.proofs.OrderFactLemmas.{all_served, cause_may, if_some, long_whole, memory_may, none_served, of_read, read_may, reads_none, reads_some}
@@ -42,11 +41,11 @@ memory_failed run same written_well read_well reads = record {
   written_well = λ other. written_well;
 }
 
-pub words_failed : {S K : Type 0} (rest : S → Option (List ℕ)) (faults : S → ℕ) (held : K → Option (List ℕ)) (counts : K → ℕ) (source : S) (out : K)
+pub words_failed : {S K : Type 0} (rest : S → Option (List ℕ)) (faults : S → ℕ) (held : K → Held) (counts : K → ℕ) (source : S) (out : K)
     (all : List (List ℕ)) (fault : WordsFault) → (fault ≡ words.Usage → HasNoOrder all)
-    → Fails (run_of all (device rest faults source source) (device held counts out out)) (words_fault fault)
+    → Fails (run_of all (source_device rest faults source source) (device held counts out out)) (words_fault fault)
 words_failed {S} {K} rest faults held counts source out all words.Usage none =
-    let run : Run = run_of all (device rest faults source source) (device held counts out out) in
+    let run : Run = run_of all (source_device rest faults source source) (device held counts out out) in
     record {
       usage = λ e. none refl;
       no_order = λ e. inl refl;
@@ -64,7 +63,7 @@ words_failed {S} {K} rest faults held counts source out all words.Usage none =
       written_well = λ other. refl;
     }
 words_failed {S} {K} rest faults held counts source out all words.Memory none =
-    let run : Run = run_of all (device rest faults source source) (device held counts out out) in
+    let run : Run = run_of all (source_device rest faults source source) (device held counts out out) in
     memory_failed run refl refl refl (reads_none run refl refl)
 
 -- the words give no order where the reader of words says so
@@ -102,10 +101,10 @@ caused_exact order text fault law cause = record {
 
 pub text_failed : (run : Run) (order : OrderView) (fault : Fault) → IsOrder run.words order → HasOneOutcome (promise_of order.command)
     → IsFaultOfText (promise_of order.command).statuses fault
-    → IfSome (text_told (reads_of order) run.source.old) (λ text. IsCause order text fault)
+    → IfSome (text_told (reads_of order) run.source.old.bytes) (λ text. IsCause order text fault)
     → run.out.IsUnchanged → IsCalm run.out → IsCalm run.source → HoldsOfOrder run (IsReadWhole run.source) → Reads run → Fails run fault
 text_failed run order fault is law known cause same written_well read_well whole reads =
-    let told = text_told (reads_of order) run.source.old in
+    let told = text_told (reads_of order) run.source.old.bytes in
     record {
       usage = λ e. absurd (other_fault fault Usage known.of_text (λ h. h) e);
       no_order = λ none. absurd (none.refuted order is);
@@ -168,14 +167,14 @@ read_failed run order fault is law r same written_well =
     reads : Reads run
     reads = reads_some run order r.own is r.is_own r.few
 
-    by_reason : (why : ReadFault) → (why ≡ reading.TooLong → IfSome run.source.old (λ rest. r.own.bytes < length rest))
+    by_reason : (why : ReadFault) → (why ≡ reading.TooLong → IfSome run.source.old.bytes (λ rest. r.own.bytes < length rest))
         → (why ≡ reading.Failed → Rises run.source) → ((why ≡ reading.Failed → ⊥) → IsCalm run.source) → Fails run (reading_fault r.own why)
     by_reason reading.Failed long failed calm = source_failed run order r.own is r.is_own same written_well (failed refl) reads
     by_reason reading.Memory long failed calm = memory_failed run same written_well (calm (λ e. absurd cc)) reads
     by_reason reading.TooLong long failed calm =
-        let told : IfSome (text_told (reads_of order) run.source.old) (λ text. IsCause order text r.own.fault) =
-        subst (λ (o : Option TextLimit). IfSome (text_told o run.source.old) (λ text. IsCause order text r.own.fault)) (sym r.is_own)
-        (if_some run.source.old _ _ (λ text over. long_cause order r.own law r.is_own text over) (long refl)) in
+        let told : IfSome (text_told (reads_of order) run.source.old.bytes) (λ text. IsCause order text r.own.fault) =
+        subst (λ (o : Option TextLimit). IfSome (text_told o run.source.old.bytes) (λ text. IsCause order text r.own.fault)) (sym r.is_own)
+        (if_some run.source.old.bytes _ _ (λ text over. long_cause order r.own law r.is_own text over) (long refl)) in
         text_failed run order r.own.fault is law (long_known order r.own law r.is_own) told same written_well (calm (λ e. absurd cc))
         (long_whole run order r.own is r.is_own (long refl)) reads
 
@@ -196,15 +195,15 @@ not_prepared run order items lent fault is law r lends h same written_well = eli
 ]
 
 pub written : (run : Run) (order : OrderView) (items lent bytes : List ℕ) → IsOrder run.words order → HasOneOutcome (promise_of order.command)
-    → IsReadFrom (reads_of order) run.source items → lent ≡ items → Gives order lent bytes → Appends run.out.old run.out.new bytes → IsCalm run.out
-    → Succeeds run
-written run order items lent bytes is law r lends gives grown written_well =
-    let told = text_told (reads_of order) run.source.old in
+    → IsReadFrom (reads_of order) run.source items → lent ≡ items → Gives order lent bytes → Took run.out.old run.out.new bytes
+    → run.out.new.flushed → IsCalm run.out → Succeeds run
+written run order items lent bytes is law r lends gives took flushed written_well =
+    let told = text_told (reads_of order) run.source.old.bytes in
     let given : IfSome told (λ text. Gives order text bytes) = of_read told lent items (λ text. Gives order text bytes) lends r.told gives in
     record {
       ordered = λ none. none.refuted order is;
       gives = serve run order (λ o text. Grows (Gives o text) run.out) is
-          (if_some told _ _ (λ text g. record { bytes = bytes; is = g; grown = grown }) given);
+          (if_some told _ _ (λ text g. record { bytes = bytes; is = g; took = took; flushed = flushed }) given);
       may = success_may run.words;
       exact = serve run order (λ o text. IsStatusOfAll o text 0) is
           (if_some told _ _ (λ text g. record { each = λ fault exact cause. absurd (law.never_both order text bytes fault g cause exact) }) given);
@@ -215,10 +214,10 @@ written run order items lent bytes is law r lends gives grown written_well =
     }
 
 pub not_written : (run : Run) (order : OrderView) (items lent bytes : List ℕ) → IsOrder run.words order → HasOneOutcome (promise_of order.command)
-    → IsReadFrom (reads_of order) run.source items → lent ≡ items → Gives order lent bytes → AppendsFront run.out.old run.out.new bytes → Rises run.out
+    → IsReadFrom (reads_of order) run.source items → lent ≡ items → Gives order lent bytes → TookFront run.out.old run.out.new bytes → Rises run.out
     → Fails run Write
-not_written run order items lent bytes is law r lends gives grown rises =
-    let told = text_told (reads_of order) run.source.old in
+not_written run order items lent bytes is law r lends gives took rises =
+    let told = text_told (reads_of order) run.source.old.bytes in
     let given : IfSome told (λ text. Gives order text bytes) = of_read told lent items (λ text. Gives order text bytes) lends r.told gives in
     record {
       usage = λ e. absurd cc;
@@ -226,7 +225,7 @@ not_written run order items lent bytes is law r lends gives grown rises =
       may = λ other. write_may run.words;
       cause = all_served run (IsCausedBy Write) (λ order text. tt);
       begins = λ e. serve run order (λ o text. GrowsByPrefix (Gives o text) run.out) is
-          (if_some told _ _ (λ text g. record { bytes = bytes; is = g; grown = grown }) given);
+          (if_some told _ _ (λ text g. record { bytes = bytes; is = g; took = took }) given);
       silent = λ other. absurd (other refl);
       exact = λ r m. serve run order (λ o text. IsStatusOfAll o text 10) is
           (if_some told _ _ (λ text g. record { each = λ fault exact cause. absurd (law.never_both order text bytes fault g cause exact) }) given);

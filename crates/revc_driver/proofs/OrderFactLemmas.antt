@@ -28,9 +28,9 @@ of_read (Some text) lent items P same told p = subst P told (subst P same p)
 
 -- what holds of one order of the words holds of each
 pub serve : (run : Run) (order : OrderView) (P : OrderView → List ℕ → Type 0) → IsOrder run.words order
-    → IfSome (text_told (reads_of order) run.source.old) (P order) → HoldsOfOrder run P
+    → IfSome (text_told (reads_of order) run.source.old.bytes) (P order) → HoldsOfOrder run P
 serve run order P is holds = record {
-  each = λ other also. subst (λ (o : OrderView). IfSome (text_told (reads_of o) run.source.old) (P o)) (one_order run.words order other is also) holds;
+  each = λ other also. subst (λ (o : OrderView). IfSome (text_told (reads_of o) run.source.old.bytes) (P o)) (one_order run.words order other is also) holds;
 }
 
 pub none_served : (run : Run) (P : OrderView → List ℕ → Type 0) → HasNoOrder run.words → HoldsOfOrder run P
@@ -38,10 +38,10 @@ none_served run P none = record { each = λ order is. absurd (none.refuted order
 
 pub served : (run : Run) (P Q : OrderView → List ℕ → Type 0) → ((order : OrderView) (text : List ℕ) → P order text → Q order text) → HoldsOfOrder run P
     → HoldsOfOrder run Q
-served run P Q h s = record { each = λ order is. if_some (text_told (reads_of order) run.source.old) (P order) (Q order) (h order) (s.each order is) }
+served run P Q h s = record { each = λ order is. if_some (text_told (reads_of order) run.source.old.bytes) (P order) (Q order) (h order) (s.each order is) }
 
 pub all_served : (run : Run) (P : OrderView → List ℕ → Type 0) → ((order : OrderView) (text : List ℕ) → P order text) → HoldsOfOrder run P
-all_served run P h = record { each = λ order is. always (text_told (reads_of order) run.source.old) (P order) (h order) }
+all_served run P h = record { each = λ order is. always (text_told (reads_of order) run.source.old.bytes) (P order) (h order) }
 
 -- ---- statuses
 
@@ -87,21 +87,22 @@ none_taken : (bytes : Option (List ℕ)) (most : ℕ) → TakesCount bytes bytes
 none_taken bytes most = ([], Consumes-nil bytes, omega arith)
 
 -- a source that is as it was
-pub reads_none : (run : Run) → run.source.IsUnchanged → run.source.new ≡ run.source.old → Reads run
+pub reads_none : (run : Run) → run.source.IsUnchanged → run.source.new.bytes ≡ run.source.old.bytes → Reads run
 reads_none run same bytes = record {
   unread = λ nothing. same;
   few = record {
     each = λ order is. always (reads_of order) _ (λ limit.
-        subst (λ (o : Option (List ℕ)). TakesCount run.source.old o (λ count. count ≤ limit.bytes + 1)) (sym bytes)
-        (none_taken run.source.old (limit.bytes + 1)));
+        subst (λ (o : Option (List ℕ)). TakesCount run.source.old.bytes o (λ count. count ≤ limit.bytes + 1)) (sym bytes)
+        (none_taken run.source.old.bytes (limit.bytes + 1)));
   };
 }
 
 few_of : (run : Run) (order : OrderView) → IsOrder run.words order
-    → IfSome (reads_of order) (λ (limit : TextLimit). TakesCount run.source.old run.source.new (λ count. count ≤ limit.bytes + 1)) → ReadsFew run
+    → IfSome (reads_of order) (λ (limit : TextLimit). TakesCount run.source.old.bytes run.source.new.bytes (λ count. count ≤ limit.bytes + 1)) → ReadsFew run
 few_of run order is h = record {
   each = λ other also. subst (λ (o : OrderView). IfSome (reads_of o)
-      (λ (limit : TextLimit). TakesCount run.source.old run.source.new (λ count. count ≤ limit.bytes + 1))) (one_order run.words order other is also) h;
+      (λ (limit : TextLimit). TakesCount run.source.old.bytes run.source.new.bytes (λ count. count ≤ limit.bytes + 1)))
+      (one_order run.words order other is also) h;
 }
 
 few_within : (limit : Option TextLimit) (old new : Option (List ℕ)) → TakesCount old new (λ count. count ≤ most_bytes limit)
@@ -113,16 +114,16 @@ few_within (Some own) old new h = (h.0, h.1, let few = h.2 in omega arith)
 pub reads_whole : (run : Run) (order : OrderView) (text : List ℕ) → IsOrder run.words order → IsReadFrom (reads_of order) run.source text → Reads run
 reads_whole run order text is r = record {
   unread = λ nothing. r.unread (nothing.each order is);
-  few = few_of run order is (few_within (reads_of order) run.source.old run.source.new r.few);
+  few = few_of run order is (few_within (reads_of order) run.source.old.bytes run.source.new.bytes r.few);
 }
 
 -- one that was not
 pub reads_some : (run : Run) (order : OrderView) (own : TextLimit) → IsOrder run.words order → reads_of order ≡ Some own
-    → TakesCount run.source.old run.source.new (λ count. count ≤ own.bytes + 1) → Reads run
+    → TakesCount run.source.old.bytes run.source.new.bytes (λ count. count ≤ own.bytes + 1) → Reads run
 reads_some run order own is is_own few = record {
   unread = λ nothing. absurd (apart (sym (nothing.each order is) ∙ is_own));
   few = few_of run order is (subst (λ (o : Option TextLimit). IfSome o
-      (λ (limit : TextLimit). TakesCount run.source.old run.source.new (λ count. count ≤ limit.bytes + 1))) (sym is_own) few);
+      (λ (limit : TextLimit). TakesCount run.source.old.bytes run.source.new.bytes (λ count. count ≤ limit.bytes + 1))) (sym is_own) few);
 }
   where
     apart : None ≡ Some own → ⊥
@@ -136,13 +137,13 @@ end_within (Some own) new text h = λ short. h
 pub whole : (run : Run) (order : OrderView) (text : List ℕ) → IsOrder run.words order → IsReadFrom (reads_of order) run.source text
     → HoldsOfOrder run (IsReadWhole run.source)
 whole run order text is r = serve run order (IsReadWhole run.source) is
-    (always (text_told (reads_of order) run.source.old) (IsReadWhole run.source order)
-    (λ told. end_within (reads_of order) run.source.new told r.at_end))
+    (always (text_told (reads_of order) run.source.old.bytes) (IsReadWhole run.source order)
+    (λ told. end_within (reads_of order) run.source.new.bytes told r.at_end))
 
 -- a text over the limit is not read to its end
 pub long_whole : (run : Run) (order : OrderView) (own : TextLimit) → IsOrder run.words order → reads_of order ≡ Some own
-    → IfSome run.source.old (λ rest. own.bytes < length rest) → HoldsOfOrder run (IsReadWhole run.source)
+    → IfSome run.source.old.bytes (λ rest. own.bytes < length rest) → HoldsOfOrder run (IsReadWhole run.source)
 long_whole run order own is is_own long = serve run order (IsReadWhole run.source) is
-    (subst (λ (o : Option TextLimit). IfSome (text_told o run.source.old)
-    (λ text. IfSome o (λ (limit : TextLimit). length text ≤ limit.bytes → IsAtEnd run.source.new))) (sym is_own)
-    (if_some run.source.old (λ rest. own.bytes < length rest) _ (λ text over short. absurd (omega (arith, over, short))) long))
+    (subst (λ (o : Option TextLimit). IfSome (text_told o run.source.old.bytes)
+    (λ text. IfSome o (λ (limit : TextLimit). length text ≤ limit.bytes → IsAtEnd run.source.new.bytes))) (sym is_own)
+    (if_some run.source.old.bytes (λ rest. own.bytes < length rest) _ (λ text over short. absurd (omega (arith, over, short))) long))

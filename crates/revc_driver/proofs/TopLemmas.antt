@@ -3,8 +3,8 @@ use Rattle.std.proofs.Common.{◌≡◌, ℕ, inl, inr, List, refl, ap, arith}
 use Rattle.command_answers.specs.declared.fault.Fault.{Fault}
 use Rattle.command_answers.specs.declared.fault.Fault.TheVariants.{Usage, Read, Write, Memory}
 use Rattle.command_answers.specs.Faults.{Receives, line_of, status_of}
-use Rattle.revc_driver.specs.Commands.{IsCause}
-use Rattle.revc_driver.specs.Top.{Answers, Device, RestsOnText, Run, Stopped}
+use Rattle.revc_driver.specs.Commands.{Gives, IsCause}
+use Rattle.revc_driver.specs.Top.{Answers, Device, EndsWell, GrowsByPrefix, HoldsOfOrder, IsSureOf, RestsOnText, Rises, Run, Stopped}
 use Rattle.revc_driver.specs.inside.Ends.{Fails, IsCausedBy, Succeeds}
 use Rattle.revc_driver.proofs.OrderFactLemmas.{all_served, served}
 use Rattle.revc_words.specs.Words.{OrderView}
@@ -35,6 +35,14 @@ rests order text Write on cause = absurd (on.no_write refl)
 rests order text Memory on cause = absurd (on.no_memory refl)
 rests order text fault on cause = cause
 
+-- a sink that surely takes what the order gives takes it
+surely_taken : (run : Run) (fault : Fault) → Fails run fault → ¬ Rises run.source
+    → HoldsOfOrder run (λ order text. IsSureOf (Gives order text) run.out → EndsWell order text (status_of fault))
+surely_taken run Write f calm = served run (λ order text. GrowsByPrefix (Gives order text) run.out) _
+    (λ order text begun sure. absurd (begun.took.unsure _ (omega arith) (sure.each begun.bytes begun.is))) (f.begins refl)
+surely_taken run fault f calm = served run (λ order text. EndsWell order text (status_of fault)) _ (λ order text ends sure. ends)
+    (f.completes (λ e. calm (f.read_fault e)) (λ e. absurd cc))
+
 -- ---- the answer
 
 pub succeeded : (run : Run) (err : Device) → Succeeds run → err.IsUnchanged → Answers run err 0
@@ -48,6 +56,7 @@ succeeded run err s quiet = record {
   stops = λ on. absurd (on.no_success refl);
   exact = λ r m. s.exact;
   completes = λ i o. all_served run _ (λ order text. record { end = λ serves. inl refl });
+  surely = λ i. all_served run _ (λ order text sure. record { end = λ serves. inl refl });
   read_fault = λ e. absurd (omega (arith, e));
   read_well = λ other. s.read_well;
   write_fault = λ e. absurd (omega (arith, e));
@@ -72,6 +81,7 @@ failed run err fault f line = record {
       (λ order text cause. record { fault = fault; cause = rests order text fault on cause; caused = refl; line = line }) f.cause;
   exact = λ r m. f.exact (λ e. r (ap status_of e)) (λ e. m (ap status_of e));
   completes = λ i o. f.completes (λ e. i (f.read_fault e)) (λ e. o (f.write_fault e));
+  surely = λ i. surely_taken run fault f i;
   read_fault = λ e. f.read_fault (is_read fault e);
   read_well = λ other. f.read_well (λ e. other (ap status_of e));
   write_fault = λ e. f.write_fault (is_write fault e);

@@ -1,8 +1,8 @@
 -- What the top call answers, and what it leaves.
 use Rattle.std.specs.Prelude.{◌≡◌, ◌≢◌, ℕ, ◌+◌, ◌≤◌, Option, None, IfSome, List, ◌⊎◌, Contains, length}
-use Rattle.std.specs.Io.KnownBytes.{Appends, IsAtEnd}
+use Rattle.std.specs.Io.KnownBytes.{IsAtEnd}
 use Rattle.revc_io.specs.Faults.{Rose}
-use Rattle.revc_io.specs.Passing.{AppendsFront}
+use Rattle.revc_io.specs.Held.{Held, Took, TookFront, bytes_alone}
 use Rattle.revc_io.specs.Reading.{TakesCount}
 use Rattle.command_answers.specs.declared.fault.Fault.{Fault}
 use Rattle.command_answers.specs.declared.limit.TextLimit.{TextLimit}
@@ -12,23 +12,27 @@ use Rattle.revc_words.specs.Words.{OrderView, HasNoOrder, IsOrder}
 
 -- ---- a run
 
--- a source or a sink before a run and behind it: the bytes that are left or held, where it tells them; its count of
--- faults; and that it is as it was
+-- a source or a sink before a run and behind it: what it says, its count of faults, and that it is as it was
 pub record Device : Type 1 where
-  pub old : Option (List ℕ)
-  pub new : Option (List ℕ)
+  pub old : Held
+  pub new : Held
   pub before : ℕ
   pub now : ℕ
   pub IsUnchanged : Type 0
 
-abbrev pub device : {T : Type 0} → (T → Option (List ℕ)) → (T → ℕ) → (old new : T) → Device
-device bytes faults old new = record {
-  old = bytes old;
-  new = bytes new;
+-- a sink
+abbrev pub device : {T : Type 0} → (T → Held) → (T → ℕ) → (old new : T) → Device
+device held faults old new = record {
+  old = held old;
+  new = held new;
   before = faults old;
   now = faults new;
   IsUnchanged = new ≡ old;
 }
+
+-- a source, which says at most what bytes are left
+abbrev pub source_device : {T : Type 0} → (T → Option (List ℕ)) → (T → ℕ) → (old new : T) → Device
+source_device rest faults = device (λ source. bytes_alone (rest source)) faults
 
 -- its count of faults rose
 abbrev pub Rises : Device → Type 0
@@ -49,21 +53,26 @@ run_of words source out = record { words = words; source = source; out = out }
 -- this holds of the order that the words give and of its text, where the source tells it
 pub record HoldsOfOrder (run : Run) (P : OrderView → List ℕ → Type 0) : Type 0 where
   pub each : (order : OrderView) → IsOrder run.words order
-      → IfSome (text_told (reads_of order) run.source.old) (P order)
+      → IfSome (text_told (reads_of order) run.source.old.bytes) (P order)
 
 -- ---- what is written
 
--- the bytes by which a sink grew have this property
+-- the bytes that a sink took have this property, and it holds none of them back
 pub record Grows (P : List ℕ → Type 0) (out : Device) : Type 0 where
   pub bytes : List ℕ
   pub is : P bytes
-  pub grown : Appends out.old out.new bytes
+  pub took : Took out.old out.new bytes
+  pub flushed : out.new.flushed
 
--- the bytes by which a sink grew are a prefix of some that have this property
+-- the bytes that a sink took are a prefix of some that have this property, which it did not surely take
 pub record GrowsByPrefix (P : List ℕ → Type 0) (out : Device) : Type 0 where
   pub bytes : List ℕ
   pub is : P bytes
-  pub grown : AppendsFront out.old out.new bytes
+  pub took : TookFront out.old out.new bytes
+
+-- the sink surely takes whatever has this property
+pub record IsSureOf (P : List ℕ → Type 0) (out : Device) : Type 0 where
+  pub each : (bytes : List ℕ) → P bytes → out.old.takes (length bytes)
 
 -- the sink received the line of a fault with this status
 pub record Reports (status : ℕ) (err : Device) : Type 0 where
@@ -119,18 +128,18 @@ pub record ReadsNothing (words : List (List ℕ)) : Type 0 where
 pub record ReadsFew (run : Run) : Type 0 where
   pub each : (order : OrderView) → IsOrder run.words order
       → IfSome (reads_of order) (λ (limit : TextLimit).
-      TakesCount run.source.old run.source.new (λ count. count ≤ limit.bytes + 1))
+      TakesCount run.source.old.bytes run.source.new.bytes (λ count. count ≤ limit.bytes + 1))
 
 -- a source that is read, and that told a text within the command's limit, is at its end
 abbrev pub IsReadWhole : Device → OrderView → List ℕ → Type 0
 IsReadWhole source order text = IfSome (reads_of order) (λ (limit : TextLimit).
-    length text ≤ limit.bytes → IsAtEnd source.new)
+    length text ≤ limit.bytes → IsAtEnd source.new.bytes)
 
 -- ---- the answer
 
 -- what the status says of a run, and of the sink of its message
 pub record Answers (run : Run) (err : Device) (status : ℕ) : Type 0 where
-  -- at 0 what the order gives for the text was written, at 10 a prefix of it, and else nothing
+  -- at 0 what the order gives for the text was written and flushed, at 10 a prefix of it, and else nothing
   pub gives : status ≡ 0 → HoldsOfOrder run (λ order text. Grows (Gives order text) run.out)
   pub begins : status ≡ 10
       → HoldsOfOrder run (λ order text. GrowsByPrefix (Gives order text) run.out)
@@ -147,6 +156,9 @@ pub record Answers (run : Run) (err : Device) (status : ℕ) : Type 0 where
   -- where the order serves, success comes, unless a device or memory is wanting
   pub completes : ¬ Rises run.source → ¬ Rises run.out
       → HoldsOfOrder run (λ order text. EndsWell order text status)
+  -- so it does where the source does not fail, and the sink surely takes what the order gives
+  pub surely : ¬ Rises run.source → HoldsOfOrder run (λ order text.
+      IsSureOf (Gives order text) run.out → EndsWell order text status)
   -- 9 comes only where the source failed, and 10 only where the sink did; at each other status it did not
   pub read_fault : status ≡ 9 → Rises run.source
   pub read_well : status ≢ 9 → IsCalm run.source

@@ -1,7 +1,7 @@
 // The top call: all that the program does.
 ghost use Rattle.std.specs.Prelude.{◌≡◌, ◌<◌, IfOk, IfErr};
 ghost use Rattle.revc_driver.specs.Commands.{most_bytes};
-ghost use Rattle.revc_driver.specs.Top.{Answers, device, run_of};
+ghost use Rattle.revc_driver.specs.Top.{Answers, device, run_of, source_device};
 ghost use Rattle.revc_driver.specs.inside.Ends.{Ends, IsReadFrom, IsUnreadFor};
 ghost use Rattle.revc_driver.specs.inside.Mappings.{reading_fault, words_fault};
 ghost use Rattle.revc_words.specs.Words.{words_of};
@@ -24,7 +24,7 @@ pub fn revc<S: Source, K: Sink, E: Sink>(
     err: &mut E,
 ) -> u8
     ensures { Answers
-        (run_of (words_of words.now) (device S.rest S.faults source.old source.new)
+        (run_of (words_of words.now) (source_device S.rest S.faults source.old source.new)
         (device K.held K.faults out.old out.new))
         (device E.held E.faults err.old err.new) result }
 {
@@ -44,7 +44,7 @@ fn run<S: Source, K: Sink>(
     out: &mut K,
 ) -> Result<(), Fault>
     ensures { Ends
-        (run_of (words_of words.now) (device S.rest S.faults source.old source.new)
+        (run_of (words_of words.now) (source_device S.rest S.faults source.old source.new)
         (device K.held K.faults out.old out.new)) result }
 {
     let order = match read_words(alloc, words) {
@@ -70,9 +70,9 @@ fn read_text<S: Source>(
 ) -> Result<Vec<u8>, Fault>
     requires { most_bytes limit < usize.MAX }
     ensures ok { IfOk result (λ text. IsReadFrom limit
-        (device S.rest S.faults source.old source.new) text.items) }
+        (source_device S.rest S.faults source.old source.new) text.items) }
     ensures err { IfErr result (IsUnreadFor limit
-        (device S.rest S.faults source.old source.new)) }
+        (source_device S.rest S.faults source.old source.new)) }
 {
     let Some(limit) = limit else {
         return Ok(Vec::new(alloc));

@@ -39,13 +39,15 @@ pub record IsOnLinesOf (circuit : ReadCircuit) (narrow : CircuitView) : Type 0 w
   pub few_gates : length narrow.gates ≤ MOST_GATES
 
 -- these gates with the circuit's marks, on its lines or on one more
-pub record IsMarked (circuit : ReadCircuit) (narrow : CircuitView) (made : ConvertedView) : Type 0 where
+pub record IsMarked (circuit : ReadCircuit) (narrow : CircuitView)
+    (made : ConvertedView) : Type 0 where
   pub lines : narrow.lines ≡ line_count circuit + added_lines made.added
   pub are : made.circuit ≡ converted circuit made.added narrow.gates
   pub writable : IsWritable made
 
 -- these gates, which do what the circuit's do, with its marks
-pub record IsPlaced (circuit : ReadCircuit) (gates : List GateView) (made : ConvertedView) : Type 0 where
+pub record IsPlaced (circuit : ReadCircuit) (gates : List GateView)
+    (made : ConvertedView) : Type 0 where
   pub are : made.circuit ≡ converted circuit made.added gates
   pub writable : IsWritable made
   pub same : DoesTheSame circuit made.added gates

@@ -23,11 +23,11 @@ IsCauseOrMemory order text fault = IsCause order text fault
 
 -- the text of a command was read whole, or there is none
 pub record IsReadFrom (limit : Option TextLimit) (source : Device) (text : List ℕ) : Type 0 where
-  pub told : IfSome (text_told limit source.old) (λ told. text ≡ told)
+  pub told : IfSome (text_told limit source.old.bytes) (λ told. text ≡ told)
   pub short : length text ≤ most_bytes limit
   pub unread : limit ≡ None → source.IsUnchanged
-  pub at_end : IfSome limit (λ _. IsAtEnd source.new)
-  pub few : TakesCount source.old source.new (λ count. count ≤ most_bytes limit)
+  pub at_end : IfSome limit (λ _. IsAtEnd source.new.bytes)
+  pub few : TakesCount source.old.bytes source.new.bytes (λ count. count ≤ most_bytes limit)
   pub calm : IsCalm source
 
 -- why it was not
@@ -36,8 +36,8 @@ pub record IsUnreadFor (limit : Option TextLimit) (source : Device) (fault : Fau
   pub is_own : limit ≡ Some own
   pub why : ReadFault
   pub is : fault ≡ reading_fault own why
-  pub long : why ≡ reads.TooLong → IfSome source.old (λ rest. own.bytes < length rest)
-  pub few : TakesCount source.old source.new (λ count. count ≤ own.bytes + 1)
+  pub long : why ≡ reads.TooLong → IfSome source.old.bytes (λ rest. own.bytes < length rest)
+  pub few : TakesCount source.old.bytes source.new.bytes (λ count. count ≤ own.bytes + 1)
   pub failed : why ≡ reads.Failed → Rises source
   pub calm : why ≢ reads.Failed → IsCalm source
 
@@ -71,13 +71,15 @@ pub record Fails (run : Run) (fault : Fault) : Type 0 where
   pub no_order : HasNoOrder run.words → (fault ≡ Usage) ⊎ (fault ≡ Memory)
   pub may : fault ≢ Usage → MayEnd run.words (status_of fault)
   pub cause : HoldsOfOrder run (IsCausedBy fault)
-  pub begins : fault ≡ Write → HoldsOfOrder run (λ order text. GrowsByPrefix (Gives order text) run.out)
+  pub begins : fault ≡ Write
+      → HoldsOfOrder run (λ order text. GrowsByPrefix (Gives order text) run.out)
   pub silent : fault ≢ Write → run.out.IsUnchanged
   pub exact : fault ≢ Read → fault ≢ Memory
       → HoldsOfOrder run (λ order text. IsStatusOfAll order text (status_of fault))
   pub completes : fault ≢ Read → fault ≢ Write
       → HoldsOfOrder run (λ order text. EndsWell order text (status_of fault))
-  pub whole : fault ≢ Usage → fault ≢ Read → fault ≢ Memory → HoldsOfOrder run (IsReadWhole run.source)
+  pub whole : fault ≢ Usage → fault ≢ Read → fault ≢ Memory
+      → HoldsOfOrder run (IsReadWhole run.source)
   pub reads : Reads run
   pub read_fault : fault ≡ Read → Rises run.source
   pub read_well : fault ≢ Read → IsCalm run.source

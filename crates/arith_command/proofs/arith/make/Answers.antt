@@ -40,10 +40,12 @@ pub returns-in-Qasm-clause-ok : goal.returns-in-Qasm-clause-ok
 returns-in-Qasm-clause-ok c =
     let order = c.args.order.now in
     file_gives writes.Qasm formats.Qasm (order_of order) _ c.file-in-Qasm.result c.in-Qasm.is (λ file is. is)
-    (texts_compute order.kind order.number order.values.by c.requires.size) (c.as_slice-in-Qasm.ensures.value ∙ c.in_ok-text.ensures.bytes) c.file-in-Qasm.ensures.ok
+    (texts_compute order.kind order.number order.values.by c.requires.size) (c.as_slice-in-Qasm.ensures.value ∙ c.in_ok-text.ensures.bytes)
+    c.file-in-Qasm.ensures.ok
 
 pub returns-in-Qasm-clause-err : goal.returns-in-Qasm-clause-err
 returns-in-Qasm-clause-err c =
     let order = c.args.order.now in
     file_stops writes.Qasm formats.Qasm (order_of order) _ c.file-in-Qasm.result c.in-Qasm.is (λ fault is. is)
-    (texts_compute order.kind order.number order.values.by c.requires.size) (c.as_slice-in-Qasm.ensures.value ∙ c.in_ok-text.ensures.bytes) c.file-in-Qasm.ensures.err
+    (texts_compute order.kind order.number order.values.by c.requires.size) (c.as_slice-in-Qasm.ensures.value ∙ c.in_ok-text.ensures.bytes)
+    c.file-in-Qasm.ensures.err

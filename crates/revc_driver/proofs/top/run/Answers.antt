@@ -25,7 +25,7 @@ pub returns-in-Ok-write : goal.returns-in-Ok-write
 returns-in-Ok-write g c =
     written _ (order_of c.in-Ok.order) c.in_ok-text.text.items c.deref.result.now (text_of c.in_ok-prepared.prepared) c.in-Ok.ensures.ok
     c.one_outcome.ensures (rw c.limit_of.ensures.limit at c.in_ok-text.ensures.ok) c.deref.ensures.value c.in_ok-prepared.ensures.ok
-    c.in-Ok-write.ensures.bytes c.in-Ok-write.ensures.cause.stays
+    c.in-Ok-write.ensures.bytes.0 c.in-Ok-write.ensures.bytes.1 c.in-Ok-write.ensures.cause.stays
 
 pub returns : goal.returns
 returns g c =
