@@ -6,4 +6,5 @@ pub mod NearerLemmas
 pub mod KeepsLemmas
 pub mod TableLemmas
 pub mod NearestLemmas
+pub mod RepeatedLemmas
 pub mod SettlingLemmas

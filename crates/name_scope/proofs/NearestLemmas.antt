@@ -59,7 +59,7 @@ passes_early p (y ∷ ys) (suc k) x e t = by_cases (p y)
     (λ here. rw here (omega arith))
     (λ other. let rest = passes_early p ys k x e t in rw other (omega (arith, rest)))
 
-nowhere : (name : List ℕ) (scope : List (List ℕ)) → position (bytes_eq name) scope ≡ None → (k : ℕ) → slice_get scope k ≢ Some name
+pub nowhere : (name : List ℕ) (scope : List (List ℕ)) → position (bytes_eq name) scope ≡ None → (k : ℕ) → slice_get scope k ≢ Some name
 nowhere name scope e k h =
     let early = passes_early (bytes_eq name) scope k name h ((bytes_eq-Decides name name).1 refl) in
     let some : ltb (position_or_len (bytes_eq name) scope) (length scope) ≡ true = lt-ltb _ _ early in

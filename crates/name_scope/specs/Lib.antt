@@ -1,3 +1,4 @@
 pub mod Answers
 pub mod Bound
+pub mod Repeated
 pub mod inside

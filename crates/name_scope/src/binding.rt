@@ -5,6 +5,7 @@ ghost use Rattle.revs_terms.specs.Programs.{HasFewNames};
 ghost use Rattle.revs_terms.specs.Scopes.{scope_verdict, BindsToNearest, UnboundHasNone};
 ghost use Rattle.revs_terms.specs.Trees.{tree_of};
 ghost use Rattle.name_scope.specs.Answers.{Answers};
+ghost use Rattle.name_scope.specs.Repeated.{RefusesFirstRepeated, PassesOwnNames};
 ghost use Rattle.name_scope.specs.inside.Verdicts.{Settles};
 
 use crate::Scoped;
@@ -78,4 +79,11 @@ fn bind_in_turn(names: &mut Names, params: &[Param], body: &mut Term) -> Result<
 pub fn nearest_binding()
     ensures bound { BindsToNearest }
     ensures unbound { UnboundHasNone }
+{}
+
+/// The parameter that is refused is the first, in text order, that has the name of one before it.
+/// Where none is refused, no two parameters have one name.
+pub fn repeated_parameter()
+    ensures refused { RefusesFirstRepeated }
+    ensures passed { PassesOwnNames }
 {}

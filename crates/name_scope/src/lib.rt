@@ -7,5 +7,5 @@ mod numbers;
 mod program;
 mod terms;
 
-pub use binding::{ScopeFault, nearest_binding, scope};
+pub use binding::{ScopeFault, nearest_binding, repeated_parameter, scope};
 pub use program::Scoped;
