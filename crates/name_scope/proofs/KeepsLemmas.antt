@@ -1,6 +1,6 @@
 -- Binding names changes nothing but the `back` of used names, and puts each in range.
-use Rattle.std.proofs.Common.{◌≡◌, ℕ, ◌+◌, ◌<◌, leb, max, Bool, true, ◌&&◌, Option, Some, None, List, [], ◌∷◌, length, position, bytes_eq, refl, sym, ◌∙◌, ap, subst}
-use Rattle.std.proofs.Common.{arith, add-one}
+use Rattle.std.proofs.Common.{◌≡◌, ℕ, ◌+◌, ◌<◌, leb, max, Bool, true, ◌&&◌, Option, Some, None, List, [], ◌∷◌, length, position, bytes_eq}
+use Rattle.std.proofs.Common.{refl, sym, ◌∙◌, ap, subst, arith, add-one}
 use Rattle.std.proofs.lemmas.Bool.{le-leb}
 use Rattle.std.proofs.lemmas.List.Quantifiers.{position-Some}
 use Rattle.revs_terms.specs.declared.term.Name.{Name}

@@ -18,5 +18,7 @@ held None = None
 held (Some depth) = depth
 
 -- a table that holds this depth for a name, and stays as it was for all others
-pub record IsNoted (before after : List ℕ → Option (Option ℕ)) (name : List ℕ) (depth : ℕ) : Type 0 where
-  pub entries : (other : List ℕ) → after other ≡ (if bytes_eq name other then Some (Some depth) else before other)
+pub record IsNoted (before after : List ℕ → Option (Option ℕ)) (name : List ℕ) (depth : ℕ)
+    : Type 0 where
+  pub entries : (other : List ℕ) → after other
+      ≡ (if bytes_eq name other then Some (Some depth) else before other)

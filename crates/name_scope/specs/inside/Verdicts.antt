@@ -20,7 +20,8 @@ Binds (Ok done) verdict now = verdict ≡ scoped now
 Binds (Err fault) verdict now = IsUnbound fault verdict
 
 -- The same, and the names in scope are those from before.
-abbrev pub BindsIn : {A : Type 0} → Result (Unit {0}) ScopeFault → Scoped A → A → (before after : List (List ℕ)) → Type 0
+abbrev pub BindsIn : {A : Type 0} → Result (Unit {0}) ScopeFault → Scoped A → A
+    → (before after : List (List ℕ)) → Type 0
 BindsIn (Ok done) verdict now before after = (verdict ≡ scoped now) × (after ≡ before)
 BindsIn (Err fault) verdict now before after = IsUnbound fault verdict
 
@@ -49,7 +50,8 @@ Differ (Err fault.Memory) second = Unit {0}
 
 -- The names of parameters and of a body are bound, or the first that cannot be is refused.
 abbrev pub Settles : Result (Unit {0}) ScopeFault → List Param → (before now : Tree) → Type 0
-Settles (Ok done) params before now = (second_of [] params ≡ None) × (scoped_tree (params_scope params) before ≡ scoped now)
+Settles (Ok done) params before now =
+    (second_of [] params ≡ None) × (scoped_tree (params_scope params) before ≡ scoped now)
 Settles (Err (fault.Unbound at)) params before now = scope_verdict params before ≡ unbound_name at
 Settles (Err (fault.TwoParams at)) params before now = scope_verdict params before ≡ two_params at
 Settles (Err fault.Memory) params before now = Unit {0}
