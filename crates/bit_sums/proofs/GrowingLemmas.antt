@@ -24,7 +24,8 @@ use Rattle.bit_sums.specs.Growing.{IsPut}
 use Rattle.bit_sums.specs.Products.{IsJoinOf}
 use Rattle.bit_sums.specs.Sums.{ProductView, SumView, IsProductOver, product_value, sum_value, xor_by}
 use Rattle.bit_sums.specs.declared.growing.Join.{Join}
-use Rattle.bit_sums.specs.inside.Putting.{IsJoinAt, IsPutOnce}
+use Rattle.bit_sums.specs.inside.Firsts.{IsFirstJoin}
+use Rattle.bit_sums.specs.inside.Putting.{IsPutOnce}
 use Rattle.bit_sums.proofs.SetLemmas.{value-append}
 
 -- ---- the same elements in another order
@@ -161,12 +162,12 @@ put_joined bits more old new one p q joined next h j e = rw e (
     })
 
 -- the product at a place is taken out of a sum and joined with another one
-pub put_at : (bits more : List Base) (old new : List ProductView) (one : Bool) (p : ProductView) (join : Join) → IsJoinAt old p join
+pub put_at : (bits more : List Base) (old new : List ProductView) (one : Bool) (p : ProductView) (join : Join) → IsFirstJoin old p join
     → ((q : ProductView) → slice_get old join.place ≡ Some q → new ≡ swap_remove old join.place q) → more ≡ bits ++ join.part.bits.items
     → IsPutOnce (sum bits old one) p (sum more new one) join.part.product
 put_at bits more old new one p join at out e =
     put_joined bits more old new one p at.other join.part.bits.items join.part.product
-    (subst (λ (l : List ProductView). IsPermutation old (at.other ∷ l)) (sym (out at.other at.found)) (taken old join.place at.other at.found)) at.joined e
+    (subst (λ (l : List ProductView). IsPermutation old (at.other ∷ l)) (sym (out at.other at.found)) (taken old join.place at.other at.found)) at.joined.join e
 
 -- what was taken out by its place
 pub out_at : (old new : List ProductView) (i : ℕ) (result : Option ProductView) → result ≡ slice_get old i

@@ -1,5 +1,6 @@
 pub mod EqualityLemmas
 pub mod GrowingLemmas
+pub mod JoinLemmas
 pub mod OwnLemmas
 pub mod PartLemmas
 pub mod SetLemmas

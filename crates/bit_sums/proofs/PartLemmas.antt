@@ -13,7 +13,8 @@ use Rattle.bit_sums.specs.declared.limits.TheConstants.{MOST_FACTOR_BITS}
 use Rattle.bit_sums.specs.Bits.{AreRising, apart}
 use Rattle.bit_sums.specs.Products.{IsFactor, IsJoinOf, IsProduct, IsProductOf}
 use Rattle.bit_sums.specs.Sums.{ProductView, AreAll, IsProductOver, product_value, xor_by}
-use Rattle.bit_sums.specs.inside.Steps.{AreApart, HasFactors, IsCrossed, IsFactored, IsWithin, JoinsFactors}
+use Rattle.bit_sums.specs.inside.Joins.{HasFactors, IsCrossing, IsJoined, IsShared}
+use Rattle.bit_sums.specs.inside.Steps.{AreApart, IsCrossed, IsFactored, IsWithin, JoinsFactors}
 use Rattle.bit_sums.proofs.SetLemmas.{all-apart, apart_swapped, length-apart, rising-apart, value-append, value-apart}
 use Rattle.bit_sums.proofs.OwnLemmas.{apart_turned, own_apart, own_left, within_right}
 
@@ -133,23 +134,33 @@ apart_first a b rest e f g same =
 shared_value : (a b c : Bool) → ((xor a b) && c) ≡ xor (a && c) (b && c)
 shared_value a b c = sym (xor-and_left a b c)
 
-pub factored_by : (a b c sum bits : List Base) (product : Option ProductView) → sum ≡ apart a b → IsProductOf sum c bits product
-    → IsFactored a b c bits product
-factored_by a b c sum bits product e p = record {
+pub factored_by : (a b c sum bits : List Base) (product : Option ProductView) → sum ≡ apart a b → length sum ≤ MOST_FACTOR_BITS
+    → IsProductOf sum c bits product → IsFactored a b c bits product
+factored_by a b c sum bits product e few p = record {
   values = λ bit. p.values bit ∙ rw (e, value-apart bit a b) (shared_value (xor_by bit a) (xor_by bit b) (xor_by bit c));
   few = p.few;
   bits_over = λ test x y z. p.bits_over test (subst (AreAll test) (sym e) (all-apart (λ w. test w ≡ true) a b x y)) z;
   product_over = λ test x y z. p.product_over test (subst (AreAll test) (sym e) (all-apart (λ w. test w ≡ true) a b x y)) z;
+  short = subst (λ (l : List Base). length l ≤ MOST_FACTOR_BITS) e few;
+  made = subst (λ (l : List Base). IsProductOf l c bits product) e p;
 }
 
 -- the factors of p are `a` and `c`, those of q `b` and `c`, in any order
-pub join_factored : (p q : ProductView) (a b c bits : List Base) (product : Option ProductView) → HasFactors a c p → HasFactors b c q
+join_factored : (p q : ProductView) (a b c bits : List Base) (product : Option ProductView) → HasFactors a c p → HasFactors b c q
     → IsFactored a b c bits product → IsJoinOf p q bits product
 join_factored p q a b c bits product hp hq f = record {
   values = λ bit. f.values bit ∙ rw (value-factors bit a c p hp, value-factors bit b c q hq) refl;
   few = omega (arith, f.few);
   bits_over = λ test x y. let l = both_over test a c p hp x in let r = both_over test b c q hq y in f.bits_over test l.0 r.0 l.1;
   product_over = λ test x y. let l = both_over test a c p hp x in let r = both_over test b c q hq y in f.product_over test l.0 r.0 l.1;
+}
+
+shared_so : (p q : ProductView) (a b c bits : List Base) (product : Option ProductView) → HasFactors a c p → HasFactors b c q
+    → IsFactored a b c bits product → IsShared p q bits product
+shared_so p q a b c bits product hp hq f = record {
+  join = join_factored p q a b c bits product hp hq f;
+  rule = record { a = a; b = b; c = c; first = hp; second = hq; few = f.short };
+  made = f.made;
 }
 
 -- ---- two products that cross
@@ -163,8 +174,9 @@ unfolding mathlib.Core.Bool.xor
 more_bits = of_three_bits (λ a b c. xor (xor a c) b) (λ a b c. xor (xor a b) c) refl
 
 pub crossed_made : (a b c left right made bits : List Base) (product : Option ProductView) → IsFactor c → left ≡ apart a c → right ≡ apart b c
-    → IsProductOf left right made product → bits ≡ made ++ c → IsCrossed a b c bits product
-crossed_made a b c left right made bits product f l r p e = rw e (record {
+    → length left ≤ MOST_FACTOR_BITS → length right ≤ MOST_FACTOR_BITS → IsProductOf left right made product → bits ≡ made ++ c
+    → IsCrossed a b c bits product
+crossed_made a b c left right made bits product f l r few more p e = rw e (record {
   values = λ bit.
       ap (λ v. xor v (xor_by (product_value bit) (option_to_list product))) (value-append bit made c)
       ∙ more_bits (xor_by bit made) (xor_by (product_value bit) (option_to_list product)) (xor_by bit c)
@@ -179,10 +191,16 @@ crossed_made a b c left right made bits product f l r p e = rw e (record {
   product_over = λ test x y z.
       p.product_over test (subst (AreAll test) (sym l) (all-apart (λ w. test w ≡ true) a c x z))
       (subst (AreAll test) (sym r) (all-apart (λ w. test w ≡ true) b c y z));
+  left = subst (λ (s : List Base). length s ≤ MOST_FACTOR_BITS) l few;
+  right = subst (λ (s : List Base). length s ≤ MOST_FACTOR_BITS) r more;
+  rest = made;
+  parts = refl;
+  made = subst (λ (s : List Base). IsProductOf s (apart b c) made product) l
+      (subst (λ (s : List Base). IsProductOf left s made product) r p);
 })
 
 -- a factor of q is the sum of both of p, and the other one is `c`
-pub join_crossed : (p q : ProductView) (c sum bits : List Base) (product : Option ProductView) → sum ≡ apart p.first p.second → HasFactors c sum q
+join_crossed : (p q : ProductView) (c sum bits : List Base) (product : Option ProductView) → sum ≡ apart p.first p.second → HasFactors c sum q
     → IsCrossed p.first p.second c bits product → IsJoinOf p q bits product
 join_crossed p q c sum bits product e hq f = record {
   values = λ bit. f.values bit ∙ ap (xor (product_value bit p))
@@ -192,13 +210,32 @@ join_crossed p q c sum bits product e hq f = record {
   product_over = λ test x y. let r = both_over test c sum q hq y in f.product_over test x.first x.second r.0;
 }
 
-pub join_turned : (p q : ProductView) (bits : List Base) (product : Option ProductView) → IsJoinOf q p bits product → IsJoinOf p q bits product
+crossing_so : (p q : ProductView) (c sum bits : List Base) (product : Option ProductView) → sum ≡ apart p.first p.second → HasFactors c sum q
+    → IsCrossed p.first p.second c bits product → IsCrossing p q bits product
+crossing_so p q c sum bits product e hq f = record {
+  join = join_crossed p q c sum bits product e hq f;
+  rule = record { c = c; factors = subst (λ (s : List Base). HasFactors c s q) e hq; left = f.left; right = f.right };
+  rest = f.rest;
+  parts = f.parts;
+  made = f.made;
+}
+
+join_turned : (p q : ProductView) (bits : List Base) (product : Option ProductView) → IsJoinOf q p bits product → IsJoinOf p q bits product
 join_turned p q bits product j = record {
   values = λ bit. j.values bit ∙ xor_swap (product_value bit q) (product_value bit p);
   few = j.few;
   bits_over = λ test x y. j.bits_over test y x;
   product_over = λ test x y. j.product_over test y x;
 }
+
+pub joined_shared : (p q : ProductView) (bits : List Base) (product : Option ProductView) → IsShared p q bits product → IsJoined p q bits product
+joined_shared p q bits product s = record { join = s.join; rule = inl s }
+
+pub joined_crossing : (p q : ProductView) (bits : List Base) (product : Option ProductView) → IsCrossing p q bits product → IsJoined p q bits product
+joined_crossing p q bits product x = record { join = x.join; rule = inr (inl x) }
+
+pub joined_turned : (p q : ProductView) (bits : List Base) (product : Option ProductView) → IsCrossing q p bits product → IsJoined p q bits product
+joined_turned p q bits product x = record { join = join_turned p q bits product x.join; rule = inr (inr x) }
 
 -- ---- as the code comes to them
 
@@ -217,14 +254,14 @@ turned_factors_of p = inr refl
 
 pub factored_joins : (a b c : List Base) (q : ProductView) → HasFactors b c q → (bits : List Base) (product : Option ProductView)
     → IsFactored a b c bits product → JoinsFactors a c q bits product
-factored_joins a b c q hq bits product f = λ p hp. join_factored p q a b c bits product hp hq f
+factored_joins a b c q hq bits product f = λ p hp. shared_so p q a b c bits product hp hq f
 
-pub join_by_first : (p q : ProductView) (sum bits : List Base) (product : Option ProductView) → sum ≡ apart p.first p.second → q.second ≡ sum
-    → IsCrossed p.first p.second q.first bits product → IsJoinOf p q bits product
-join_by_first p q sum bits product e same f =
-    join_crossed p q q.first sum bits product e (subst (λ (l : List Base). HasFactors q.first l q) same (own_factors_of q)) f
+pub crossing_by_first : (p q : ProductView) (sum bits : List Base) (product : Option ProductView) → sum ≡ apart p.first p.second → q.second ≡ sum
+    → IsCrossed p.first p.second q.first bits product → IsCrossing p q bits product
+crossing_by_first p q sum bits product e same f =
+    crossing_so p q q.first sum bits product e (subst (λ (l : List Base). HasFactors q.first l q) same (own_factors_of q)) f
 
-pub join_by_second : (p q : ProductView) (sum bits : List Base) (product : Option ProductView) → sum ≡ apart p.first p.second → q.first ≡ sum
-    → IsCrossed p.first p.second q.second bits product → IsJoinOf p q bits product
-join_by_second p q sum bits product e same f =
-    join_crossed p q q.second sum bits product e (subst (λ (l : List Base). HasFactors q.second l q) same (turned_factors_of q)) f
+pub crossing_by_second : (p q : ProductView) (sum bits : List Base) (product : Option ProductView) → sum ≡ apart p.first p.second → q.first ≡ sum
+    → IsCrossed p.first p.second q.second bits product → IsCrossing p q bits product
+crossing_by_second p q sum bits product e same f =
+    crossing_so p q q.second sum bits product e (subst (λ (l : List Base). HasFactors q.second l q) same (turned_factors_of q)) f

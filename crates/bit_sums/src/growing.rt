@@ -1,13 +1,14 @@
 // Sums that grow.
 ghost use Rattle.std.specs.Prelude.{◌≡◌, ◌+◌, ◌≤◌, [], ◌∷◌, length, not, true, false, IfOk, OnOk};
-ghost use Rattle.std.specs.Prelude.{IfSome, List};
+ghost use Rattle.std.specs.Prelude.{List};
 ghost use Rattle.std.specs.Prelude.{◌⊎◌, ◌++◌, cond};
 ghost use Rattle.std.specs.List.Sorted.{IsPermutation};
 ghost use Rattle.std.specs.Option.{option_to_list};
 ghost use Rattle.bit_sums.specs.Growing.{IsFinished, IsPut, IsShort, IsSumOf, IsTimes};
 ghost use Rattle.bit_sums.specs.Growing.{sum_of_factor};
 ghost use Rattle.bit_sums.specs.Sums.{ProductView, SumView};
-ghost use Rattle.bit_sums.specs.inside.Putting.{ArePut, IsJoinAt, IsPutOnce, WithBits};
+ghost use Rattle.bit_sums.specs.inside.Firsts.{IsFirst, IsFirstOfFew, found_before};
+ghost use Rattle.bit_sums.specs.inside.Putting.{ArePut, IsPutOnce, WithBits};
 
 use crate::bits::{apart, rising};
 use crate::product::{Part, Product, joined, multiplied};
@@ -108,8 +109,9 @@ impl GrowingSum {
         self.with(other)
     }
 
-    // The sum of both: the products of the other one are put into this one.
+    // The sum of both: the products of the other one, which has no more, are put into this one.
     fn with(self, other: GrowingSum) -> Result<GrowingSum, Memory>
+        requires { length other.products ≤ length self.products }
         ensures { IfOk result (IsSumOf self other) }
     {
         let GrowingSum {
@@ -193,8 +195,7 @@ impl GrowingSum {
 
     // The least product that can be joined with this one, where there are few.
     fn first_join(&self, product: &Product) -> Result<Option<Join>, Memory>
-        ensures { IfOk result (λ found.
-            IfSome found (IsJoinAt self.now.products product.now)) }
+        ensures { IfOk result (IsFirstOfFew self.now.products product.now) }
     {
         if self.products.len() > MOST_JOINED {
             return Ok(None);
@@ -242,7 +243,9 @@ fn appended(a: Vec<Base>, b: Vec<Base>) -> Result<Vec<Base>, Memory>
     extended(a, &b)
 }
 
+// The longer list, with the other one behind it.
 fn extended(mut list: Vec<Base>, more: &[Base]) -> Result<Vec<Base>, Memory>
+    requires { length more.now ≤ length list.items }
     ensures { IfOk result (λ whole. whole.items ≡ list.items ++ more.now) }
 {
     list.extend_from_slice(more)?;
@@ -262,7 +265,7 @@ fn first_join(
     products: &[Product],
     product: &Product,
 ) -> Result<Option<Join>, Memory>
-    ensures { IfOk result (λ found. IfSome found (IsJoinAt products.now product.now)) }
+    ensures { IfOk result (IsFirst products.now product.now) }
 {
     let mut first = None;
     for (place, other) in products.iter().enumerate() {
@@ -277,7 +280,9 @@ fn first_join(
 }
 
 // Whether a lesser product was found.
-fn is_behind(products: &[Product], found: &Option<Join>, other: &Product) -> bool {
+fn is_behind(products: &[Product], found: &Option<Join>, other: &Product) -> bool
+    ensures { result ≡ found_before products.now found.now other.now }
+{
     match found {
         Some(join) => match products.get(join.place) {
             Some(least) => least.order(other).is_lt(),

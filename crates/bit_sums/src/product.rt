@@ -1,11 +1,15 @@
 // Products of two sums of bits, and what two of them make.
-ghost use Rattle.std.specs.Prelude.{◌≡◌, ◌≢◌, ◌⊎◌, ◌≤◌, ◌+◌, [], ◌∷◌, length, IfOk, IfSome, Bool};
+ghost use Rattle.std.specs.Prelude.{◌≡◌, ◌≢◌, ◌<◌, [], ◌∷◌, length, IfOk, IfSome, IfNone};
 ghost use Rattle.std.specs.Bool.{xor};
 ghost use Rattle.bit_sums.specs.Bits.{AreRising, HasOwn, apart};
-ghost use Rattle.bit_sums.specs.Products.{IsFactor, IsJoinOf, IsProduct, IsProductOf};
-ghost use Rattle.bit_sums.specs.inside.Steps.{AreApart, HasFactors, IsCrossed, IsFactored};
-ghost use Rattle.bit_sums.specs.inside.Steps.{IsWithin, JoinsFactors};
+ghost use Rattle.bit_sums.specs.Products.{IsFactor, IsProduct, IsProductOf};
+ghost use Rattle.bit_sums.specs.inside.Joins.{AreLong, CanJoin, Cross, HasFactors, IsCrossing};
+ghost use Rattle.bit_sums.specs.inside.Joins.{IsJoined, IsShared, LacksFactor, ShareFactor};
+ghost use Rattle.bit_sums.specs.inside.Joins.{product_cmp};
+ghost use Rattle.bit_sums.specs.inside.Steps.{AreApart, IsCrossed, IsFactored, IsWithin};
+ghost use Rattle.bit_sums.specs.inside.Steps.{JoinsFactors};
 ghost use Rattle.bit_sums.specs.Sums.{ProductView};
+ghost use Rattle.bit_sums.specs.declared.limits.TheConstants.{MOST_FACTOR_BITS};
 
 use crate::MOST_FACTOR_BITS;
 use crate::bits::apart;
@@ -74,7 +78,9 @@ impl Product {
 
 impl Product {
     // By the dictionary's order of the first factors, and then of the second ones.
-    pub fn order(&self, other: &Product) -> Ordering {
+    pub fn order(&self, other: &Product) -> Ordering
+        ensures { result ≡ product_cmp self.now other.now }
+    {
         match self.first().cmp(other.first()) {
             Ordering::Equal => self.second().cmp(other.second()),
             order => order,
@@ -145,8 +151,9 @@ fn within(alloc: Global, lesser: &[Base], rest: Vec<Base>) -> Result<Part, Memor
 
 /// The sum of two products, where one of two rules makes it bits and one product of few bits.
 pub fn joined(alloc: Global, p: &Product, q: &Product) -> Result<Option<Part>, Memory>
-    ensures { IfOk result (λ found.
-        IfSome found (λ part. IsJoinOf p.now q.now part.bits.items part.product)) }
+    ensures some { IfOk result (λ found.
+        IfSome found (λ part. IsJoined p.now q.now part.bits.items part.product)) }
+    ensures none { IfOk result (λ found. IfNone found (¬ CanJoin p.now q.now)) }
 {
     if let Some(part) = by_shared_factor(alloc, p, q)? {
         return Ok(Some(part));
@@ -159,8 +166,9 @@ pub fn joined(alloc: Global, p: &Product, q: &Product) -> Result<Option<Part>, M
 
 // `a c + b c = (a + b) c`, where two products share a factor.
 fn by_shared_factor(alloc: Global, p: &Product, q: &Product) -> Result<Option<Part>, Memory>
-    ensures { IfOk result (λ found.
-        IfSome found (λ part. IsJoinOf p.now q.now part.bits.items part.product)) }
+    ensures some { IfOk result (λ found.
+        IfSome found (λ part. IsShared p.now q.now part.bits.items part.product)) }
+    ensures none { IfOk result (λ found. IfNone found (¬ ShareFactor p.now q.now)) }
 {
     if let Some(part) = by_factor(alloc, p.first(), p.second(), q)? {
         return Ok(Some(part));
@@ -172,8 +180,9 @@ fn by_shared_factor(alloc: Global, p: &Product, q: &Product) -> Result<Option<Pa
 fn by_factor(alloc: Global, a: &[Base], c: &[Base], q: &Product) -> Result<Option<Part>, Memory>
     requires a { IsFactor a.now }
     requires c { IsFactor c.now }
-    ensures { IfOk result (λ found. IfSome found (λ part.
+    ensures some { IfOk result (λ found. IfSome found (λ part.
         JoinsFactors a.now c.now q.now part.bits.items part.product)) }
+    ensures none { IfOk result (λ found. IfNone found (LacksFactor a.now c.now q.now)) }
 {
     let (b, d) = (q.first(), q.second());
     if c == d {
@@ -190,8 +199,10 @@ fn factored(alloc: Global, a: &[Base], b: &[Base], shared: &[Base]) -> Result<Op
     requires a { IsFactor a.now }
     requires b { IsFactor b.now }
     requires shared { IsFactor shared.now }
-    ensures { IfOk result (λ found. IfSome found (λ part.
+    ensures some { IfOk result (λ found. IfSome found (λ part.
         IsFactored a.now b.now shared.now part.bits.items part.product)) }
+    ensures none { IfOk result (λ found.
+        IfNone found (MOST_FACTOR_BITS < length (apart a.now b.now))) }
 {
     let sum = apart(alloc, a, b)?;
     if sum.len() > MOST_FACTOR_BITS {
@@ -204,8 +215,9 @@ fn factored(alloc: Global, a: &[Base], b: &[Base], shared: &[Base]) -> Result<Op
 // `a b + c (a + b) = (a + c) (b + c) + c`, where a factor of the second product is the sum of both
 // of the first.
 fn crossed(alloc: Global, p: &Product, q: &Product) -> Result<Option<Part>, Memory>
-    ensures { IfOk result (λ found.
-        IfSome found (λ part. IsJoinOf p.now q.now part.bits.items part.product)) }
+    ensures some { IfOk result (λ found.
+        IfSome found (λ part. IsCrossing p.now q.now part.bits.items part.product)) }
+    ensures none { IfOk result (λ found. IfNone found (¬ Cross p.now q.now)) }
 {
     let sum = apart(alloc, p.first(), p.second())?;
     if q.second() == sum.as_slice() {
@@ -220,8 +232,10 @@ fn crossed(alloc: Global, p: &Product, q: &Product) -> Result<Option<Part>, Memo
 // The product of `a + c` and `b + c`, and the bits of `c`, where both sums have few bits.
 fn crossed_by(alloc: Global, p: &Product, c: &[Base]) -> Result<Option<Part>, Memory>
     requires { IsFactor c.now }
-    ensures { IfOk result (λ found. IfSome found (λ part.
+    ensures some { IfOk result (λ found. IfSome found (λ part.
         IsCrossed p.now.first p.now.second c.now part.bits.items part.product)) }
+    ensures none { IfOk result (λ found.
+        IfNone found (AreLong p.now.first p.now.second c.now)) }
 {
     let left = apart(alloc, p.first(), c)?;
     let right = apart(alloc, p.second(), c)?;

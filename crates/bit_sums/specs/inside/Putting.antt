@@ -1,19 +1,10 @@
 -- How a product is put into a sum, step by step.
-use Rattle.std.specs.Prelude.{◌≡◌, ◌⊎◌, ◌+◌, ◌*◌, ◌≤◌, Bool, List, ◌++◌, length, Option, Some, slice_get}
+use Rattle.std.specs.Prelude.{◌≡◌, ◌⊎◌, ◌+◌, ◌*◌, ◌≤◌, Bool, List, ◌++◌, length, Option}
 use Rattle.std.specs.Bool.{xor}
 use Rattle.std.specs.Option.{option_to_list}
 use Rattle.std.specs.List.{AllByRecursion}
 use Rattle.dependency_graph.specs.declared.node.Base.{Base}
-use Rattle.bit_sums.specs.declared.growing.Join.{Join}
-use Rattle.bit_sums.specs.Products.{IsJoinOf}
 use Rattle.bit_sums.specs.Sums.{ProductView, SumView, IsProductOver, IsSumOver, product_value, sum_value, weight_of, xor_by}
-
--- a product of the list makes these bits and this product with another one
-pub record IsJoinAt (products : List ProductView) (product : ProductView) (join : Join)
-    : Type 0 where
-  pub other : ProductView
-  pub found : slice_get products join.place ≡ Some other
-  pub joined : IsJoinOf product other join.part.bits.items join.part.product
 
 -- a product is put into a sum, and what is still to be put; that the sum lost a product for it
 pub record IsPutOnce (old : SumView) (product : ProductView) (new : SumView)

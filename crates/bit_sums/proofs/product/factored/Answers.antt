@@ -6,5 +6,6 @@ pub multiplied-requires-clause-a : goal.multiplied-requires-clause-a
 multiplied-requires-clause-a c =
     rw c.deref.ensures.value (factor_of_sum _ _ _ c.in_ok-sum.ensures c.requires.a.rises c.requires.b.rises (omega arith))
 
-pub returns : goal.returns
-returns c = factored_by _ _ _ c.deref.result.now _ _ (c.deref.ensures.value ∙ c.in_ok-sum.ensures) c.in_ok-part.ensures
+pub returns-clause-some : goal.returns-clause-some
+returns-clause-some c =
+    factored_by _ _ _ c.deref.result.now _ _ (c.deref.ensures.value ∙ c.in_ok-sum.ensures) (omega arith) c.in_ok-part.ensures

@@ -1,7 +1,7 @@
 use Rattle.std.proofs.Common.{List, ◌+◌, ◌≡◌, ◌∙◌, arith, subst, length}
 use Rattle.std.proofs.lemmas.Result.{IfOk-weaker}
 use Rattle.dependency_graph.specs.declared.node.Base.{Base}
-use Rattle.bit_sums.specs.inside.Steps.{HasFactors}
+use Rattle.bit_sums.specs.inside.Joins.{HasFactors}
 use Rattle.bit_sums.proofs.PartLemmas.{apart_first, first_within, neither_within, own_factors, product_of_turned, rest_of}
 use Rattle.bit_sums.proofs.SetLemmas.{apart_swapped}
 use Rattle.bit_sums.proofs.product.multiplied.Goals as goal

@@ -1,6 +1,6 @@
 use Rattle.std.proofs.Common.{List, arith, subst}
 use Rattle.dependency_graph.specs.declared.node.Base.{Base}
-use Rattle.bit_sums.specs.inside.Steps.{HasFactors}
+use Rattle.bit_sums.specs.inside.Joins.{HasFactors}
 use Rattle.bit_sums.proofs.PartLemmas.{one_product, product_apart, some_items}
 use Rattle.bit_sums.proofs.product.within.Goals as goal
 

@@ -27,7 +27,7 @@ returns c =
     let new : SumView = record { bits = c.extend_from_slice.new.self.items; products = c.swap_remove_index.new.self.keys; one = c.self.inside.one } in
     subst (λ (s : SumView). IsPutOnce s c.args.product new c.in-Some.field-0.part.product) c.self.view_is
     (put_at c.self.inside.bits.items c.extend_from_slice.new.self.items c.self.inside.products.keys c.swap_remove_index.new.self.keys c.self.inside.one
-    c.args.product c.in-Some.field-0 (rw kept at (rw c.in-Some.is at c.in_ok-place.ensures))
+    c.args.product c.in-Some.field-0 (rw kept at (rw c.in-Some.is at c.in_ok-place.ensures).1)
     (out_at _ _ _ c.swap_remove_index.result (c.swap_remove_index.ensures.key ∙ ap (λ l. slice_get l c.in-Some.field-0.place) kept)
     (rw kept at c.swap_remove_index.ensures.keys))
     (c.in_ok-extend_from_slice.ensures.items ∙ ap (λ l. c.self.inside.bits.items ++ l) c.deref.ensures.value))
