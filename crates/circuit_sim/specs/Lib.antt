@@ -1,3 +1,4 @@
+pub mod Limits
 pub mod Planes
 pub mod Rows
 pub mod inside

@@ -11,4 +11,4 @@ mod rows;
 pub use lanes::run_lanes;
 pub use plain::run_one;
 pub use planes::run_planes;
-pub use rows::run_all;
+pub use rows::{MOST_ROWS, limits_are, run_all};

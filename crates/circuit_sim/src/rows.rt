@@ -1,6 +1,7 @@
 // Any number of contents of the lines, as many at a time as there are places for.
 ghost use Rattle.std.specs.Prelude.{◌≡◌, ◌<◌, ◌≤◌, length, map, IfOk, OnOk, OnErr};
 ghost use Rattle.mct_circuit.specs.Gates.{line_map};
+ghost use Rattle.circuit_sim.specs.Limits.{LimitsAre};
 ghost use Rattle.circuit_sim.specs.Planes.{AreVectors};
 ghost use Rattle.circuit_sim.specs.Rows.{AreRows, contents};
 ghost use Rattle.circuit_sim.specs.declared.rows.TheConstants.{LANE_ROWS, MOST_ROWS};
@@ -17,8 +18,13 @@ use std::simd::u64x8;
 // How many rows the lanes of vectors hold.
 const LANE_ROWS: usize = 512;
 
-// How many rows go through the circuit at once.
-const MOST_ROWS: usize = 1_024;
+/// The most rows that go through the circuit at once.
+pub const MOST_ROWS: usize = 1_024;
+
+/// The limit of this crate, as a number.
+pub fn limits_are()
+    ensures { LimitsAre }
+{}
 
 /// Runs a circuit on each row, which has a bit for each line, line 0 first: 1,024 rows at a time on
 /// the lanes of two vectors for each line, and the rest by one vector or plane where that holds
