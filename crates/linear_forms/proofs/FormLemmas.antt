@@ -1,7 +1,7 @@
 -- Values of forms.
 use mir.Val.{bool_byte}
-use Rattle.std.proofs.Common.{◌≡◌, ◌≢◌, ◌⊎◌, inl, inr, ℕ, zero, suc, ◌+◌, ◌-◌, ◌*◌, ◌/◌, ◌%◌, ◌^◌, ◌<◌, ◌≤◌, ◌==◌, Bool, true, false, not, ◌&&◌, List, [], ◌∷◌, ◌++◌, length, drop, get_or}
-use Rattle.std.proofs.Common.{bit_xor, refl, sym, ap, subst, ◌∙◌, arith, below_more}
+use Rattle.std.proofs.Common.{◌≡◌, ◌≢◌, ◌⊎◌, inl, inr, ℕ, zero, suc, ◌+◌, ◌-◌, ◌*◌, ◌/◌, ◌%◌, ◌^◌, ◌<◌, ◌≤◌, ◌==◌, Bool, true, false}
+use Rattle.std.proofs.Common.{not, ◌&&◌, List, [], ◌∷◌, ◌++◌, length, drop, get_or, bit_xor, refl, sym, ap, subst, ◌∙◌, arith, below_more}
 use Rattle.std.specs.Bool.{xor}
 use Rattle.std.specs.Ordering.{is_ge, is_le}
 use Rattle.std.specs.declared.cmp.Ordering.{Ordering}
@@ -107,8 +107,10 @@ added_step d left right old now i j m n o low high by_left by_right taken so_far
       let x : Term = get_or left i d in
       let y : Term = get_or right j d in
       let s : Bool = terms_value atom old in
-      let one : drop (i + m) left ≡ drop (bool_byte (is_le o)) (x ∷ drop (suc i) left) = ap (λ k. drop (i + k) left) by_left ∙ advanced left i d (is_le o) low in
-      let other : drop (j + n) right ≡ drop (bool_byte (is_ge o)) (y ∷ drop (suc j) right) = ap (λ k. drop (j + k) right) by_right ∙ advanced right j d (is_ge o) high in
+      let one : drop (i + m) left ≡ drop (bool_byte (is_le o)) (x ∷ drop (suc i) left) =
+      ap (λ k. drop (i + k) left) by_left ∙ advanced left i d (is_le o) low in
+      let other : drop (j + n) right ≡ drop (bool_byte (is_ge o)) (y ∷ drop (suc j) right) =
+      ap (λ k. drop (j + k) right) by_right ∙ advanced right j d (is_ge o) high in
       ap (λ ts. xor (terms_value atom now) (xor (terms_value atom ts) (terms_value atom (drop (j + n) right)))) one
       ∙ ap (λ ts. xor (terms_value atom now) (xor (terms_value atom (drop (bool_byte (is_le o)) (x ∷ drop (suc i) left))) (terms_value atom ts))) other
       ∙ after_values atom x y (drop (suc i) left) (drop (suc j) right) s (terms_value atom now) o (taken atom)

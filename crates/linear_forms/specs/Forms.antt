@@ -35,10 +35,13 @@ abbrev pub IsAtom : ℕ → FormView → Type 0
 IsAtom number f = (atom : ℕ → Bool) → form_value atom f ≡ atom number
 
 abbrev pub IsSum : FormView → FormView → FormView → Type 0
-IsSum f g sum = (atom : ℕ → Bool) → form_value atom sum ≡ xor (form_value atom f) (form_value atom g)
+IsSum f g sum =
+    (atom : ℕ → Bool) → form_value atom sum ≡ xor (form_value atom f) (form_value atom g)
 
 abbrev pub AreSum : List Term → List Term → List Term → Type 0
-AreSum left right sum = (atom : ℕ → Bool) → terms_value atom sum ≡ xor (terms_value atom left) (terms_value atom right)
+AreSum left right sum =
+    (atom : ℕ → Bool) → terms_value atom sum
+    ≡ xor (terms_value atom left) (terms_value atom right)
 
 -- of two terms the lesser one, and both where they tie
 abbrev pub taken_value : (ℕ → Bool) → Term → Term → Ordering → Bool
@@ -49,4 +52,5 @@ taken_value atom x y Greater = term_value atom y
 -- these are added to a sum
 abbrev pub AreTaken : List Term → List Term → Term → Term → Ordering → Type 0
 AreTaken old now x y order =
-    (atom : ℕ → Bool) → terms_value atom now ≡ xor (terms_value atom old) (taken_value atom x y order)
+    (atom : ℕ → Bool) → terms_value atom now
+    ≡ xor (terms_value atom old) (taken_value atom x y order)

@@ -20,7 +20,8 @@ pair_value size value p = factor_value size value p.first && factor_value size v
 
 -- the factor is the sum of the products, whatever the members of the basis are
 abbrev pub IsSumOf : ℕ → List Pair → Factor → Type 0
-IsSumOf size pairs sum = (value : ℕ → Bool) → xor_by (pair_value size value) pairs ≡ factor_value size value sum
+IsSumOf size pairs sum =
+    (value : ℕ → Bool) → xor_by (pair_value size value) pairs ≡ factor_value size value sum
 
 -- ---- how often
 
@@ -31,4 +32,5 @@ times pairs i j = xor_by (λ (p : Pair). is_in p.first.set i && is_in p.second.s
 -- how often a member stands in a pair alone, where a product with itself is the member
 abbrev pub alone_in : Pair → ℕ → Bool
 alone_in p i =
-    xor (is_in p.first.set i && is_in p.second.set i) (xor (p.first.one && is_in p.second.set i) (p.second.one && is_in p.first.set i))
+    xor (is_in p.first.set i && is_in p.second.set i)
+    (xor (p.first.one && is_in p.second.set i) (p.second.one && is_in p.first.set i))

@@ -6,10 +6,13 @@ use Rattle.linear_forms.specs.Pairs.{is_in}
 
 -- the members stand in the pair in one order, and not in the other
 abbrev pub exchanged_in : ℕ → Pair → ℕ → Bool
-exchanged_in place p j = xor (is_in p.first.set place && is_in p.second.set j) (is_in p.first.set j && is_in p.second.set place)
+exchanged_in place p j =
+    xor (is_in p.first.set place && is_in p.second.set j)
+    (is_in p.first.set j && is_in p.second.set place)
 
 abbrev pub both_ones : Pair → Bool
 both_ones p = p.first.one && p.second.one
 
 abbrev pub no_pair : Pair
-no_pair = record { first = record { set = 0; one = false }; second = record { set = 0; one = false } }
+no_pair =
+    record { first = record { set = 0; one = false }; second = record { set = 0; one = false } }

@@ -6,7 +6,9 @@ use Rattle.linear_forms.proofs.FormLemmas.{IsAddedSoFar, added_step, all_added, 
 use Rattle.linear_forms.proofs.form.added.Goals as goal
 
 pub loop-i-init : goal.loop-i-init
-loop-i-init c = subst (λ (ts : List Term). IsAddedSoFar c.args.left.now c.args.right.now ts 0 0) (sym c.new-sum.ensures.items) (none_added c.args.left.now c.args.right.now)
+loop-i-init c =
+    subst (λ (ts : List Term). IsAddedSoFar c.args.left.now c.args.right.now ts 0 0) (sym c.new-sum.ensures.items)
+    (none_added c.args.left.now c.args.right.now)
 
 pub loop-i-preserved : goal.loop-i-preserved
 loop-i-preserved c =
