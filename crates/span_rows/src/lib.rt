@@ -8,7 +8,7 @@ mod rows;
 mod stop;
 mod vector;
 
-pub use lookup::{at, at_mut, number};
+pub use lookup::{at, at_mut, is_set, number, set};
 pub use placing::Inserted;
 pub use rows::{Add, Row, Rows};
 pub use stop::Stop;

@@ -1,5 +1,5 @@
 // Rows in echelon form, with the work that they took.
-use crate::lookup::{at, at_mut, number};
+use crate::lookup::{at, at_mut, is_set, number, set};
 use crate::stop::Stop;
 use crate::vector::sum_of;
 use std::alloc::Global;
@@ -90,24 +90,34 @@ impl Rows {
         at(&self.vectors, row)
     }
 
+    // How many symbols the vector of a row has.
+    pub(crate) fn length(&self, row: Row) -> usize {
+        self.vectors.get(row as usize).map_or(0, Vec::len)
+    }
+
     /// The row whose head is this symbol.
     pub fn with_head(&self, symbol: u32) -> Result<Option<Row>, Stop> {
-        Ok(*at(&self.heads, symbol)?)
+        at(&self.heads, symbol).copied()
+    }
+
+    // The row whose head is this symbol, if there is one.
+    pub(crate) fn row_of(&self, symbol: u32) -> Option<Row> {
+        self.heads.get(symbol as usize).copied().flatten()
     }
 
     /// Whether this symbol is to have a row of its own.
     pub fn is_forced(&self, symbol: u32) -> bool {
-        self.forced.get(symbol as usize) == Some(&true)
+        is_set(&self.forced, symbol)
     }
 
     /// Whether this symbol is that of a node without products.
     pub fn is_linear(&self, symbol: u32) -> bool {
-        self.linear.get(symbol as usize) == Some(&true)
+        is_set(&self.linear, symbol)
     }
 
     /// Whether no addition may change this row.
     pub fn is_kept(&self, row: Row) -> bool {
-        self.kept.get(row as usize) == Some(&true)
+        is_set(&self.kept, row)
     }
 
     /// The vector with that of a row added.
@@ -118,57 +128,69 @@ impl Rows {
         if self.work > self.most {
             return Err(Stop::Lost);
         }
-        Ok(sum_of(alloc, vector, other)?)
+        sum_of(alloc, vector, other).map_err(Stop::from)
     }
 
     /// A new row, which is out.
     pub fn fresh(&mut self, alloc: Global) -> Result<Row, Stop> {
-        let row = number(self.vectors.len())?;
+        let row = self.vectors.len();
         self.vectors.push(Vec::new(alloc))?;
-        Ok(row)
+        number(row)
     }
 
     /// Takes a row out, and gives its vector.
     pub fn take(&mut self, alloc: Global, row: Row) -> Result<Vec<u32>, Stop> {
         let vector = mem::replace(at_mut(&mut self.vectors, row)?, Vec::new(alloc));
-        if let Some(journal) = &mut self.journal {
-            journal.push((row, Vec::from_slice(alloc, &vector)?))?;
-        }
-        self.held = self.held.saturating_sub(vector.len());
+        self.note_change(alloc, row, &vector)?;
         self.clear_head(&vector)?;
         Ok(vector)
     }
 
     /// Puts a vector into a row that is out. Its head is that of no other row.
     pub fn put(&mut self, alloc: Global, row: Row, vector: Vec<u32>) -> Result<(), Stop> {
-        if let Some(journal) = &mut self.journal {
-            journal.push((row, Vec::new(alloc)))?;
+        self.note_change(alloc, row, &[])?;
+        self.enter(row, vector)
+    }
+
+    // The same of a copy of a vector.
+    pub(crate) fn put_copy(&mut self, alloc: Global, row: Row, vector: &[u32]) -> Result<(), Stop> {
+        self.put(alloc, row, Vec::from_slice(alloc, vector)?)
+    }
+
+    // Notes what a row holds before it changes, where changes are noted.
+    fn note_change(&mut self, alloc: Global, row: Row, vector: &[u32]) -> Result<(), Stop> {
+        match &mut self.journal {
+            Some(journal) => push_change(alloc, journal, row, vector),
+            None => Ok(()),
         }
+    }
+
+    // A row that is out gets a vector.
+    fn enter(&mut self, row: Row, vector: Vec<u32>) -> Result<(), Stop> {
         self.set_head(&vector, row)?;
-        self.held = self.held.saturating_add(vector.len());
-        if self.held > MOST_HELD {
-            return Err(Stop::Lost);
-        }
-        *at_mut(&mut self.vectors, row)? = vector;
-        Ok(())
+        set(&mut self.vectors, row, vector)
     }
 
+    // Counts a vector in, whose head becomes that of a row.
     fn set_head(&mut self, vector: &[u32], row: Row) -> Result<(), Stop> {
-        let head = *vector.first().ok_or(Stop::Lost)?;
-        let place = at_mut(&mut self.heads, head)?;
-        if place.is_some() {
-            return Err(Stop::Lost);
-        }
-        *place = Some(row);
+        self.held = self.held.saturating_add(vector.len());
         self.rank = self.rank.saturating_add(1);
-        Ok(())
+        match vector.first() {
+            Some(head) if self.held <= MOST_HELD && self.row_of(*head).is_none() => {
+                set(&mut self.heads, *head, Some(row))
+            }
+            _ => Err(Stop::Lost),
+        }
     }
 
+    // Counts a vector out, whose head becomes that of no row.
     fn clear_head(&mut self, vector: &[u32]) -> Result<(), Stop> {
-        let head = *vector.first().ok_or(Stop::Lost)?;
-        *at_mut(&mut self.heads, head)? = None;
+        self.held = self.held.saturating_sub(vector.len());
         self.rank = self.rank.saturating_sub(1);
-        Ok(())
+        match vector.first() {
+            Some(head) => set(&mut self.heads, *head, None),
+            None => Err(Stop::Lost),
+        }
     }
 
     /// From here on changes of rows are noted, so that `undo` takes them back.
@@ -192,27 +214,21 @@ impl Rows {
         Ok(())
     }
 
+    // Takes a change of a row back: the row was out before, or had this vector and is out now.
     fn restore(&mut self, row: Row, vector: Vec<u32>) -> Result<(), Stop> {
-        self.held = self.held.saturating_add(vector.len());
+        if !vector.is_empty() {
+            return self.enter(row, vector);
+        }
         let now = mem::replace(at_mut(&mut self.vectors, row)?, vector);
-        self.held = self.held.saturating_sub(now.len());
-        if !now.is_empty() {
-            self.clear_head(&now)?;
-        }
-        if let Some(head) = at(&self.vectors, row)?.first() {
-            *at_mut(&mut self.heads, *head)? = Some(row);
-            self.rank = self.rank.saturating_add(1);
-        }
-        Ok(())
+        self.clear_head(&now)
     }
 
     /// Rows that have a vector now may not be changed any more.
     pub fn keep_all(&mut self, alloc: Global) -> Result<(), Stop> {
-        let mut kept = Vec::with_capacity(alloc, self.vectors.len())?;
+        self.kept = Vec::with_capacity(alloc, self.vectors.len())?;
         for vector in &self.vectors {
-            kept.push(!vector.is_empty())?;
+            self.kept.push(!vector.is_empty())?;
         }
-        self.kept = kept;
         Ok(())
     }
 
@@ -220,4 +236,15 @@ impl Rows {
     pub fn keep_none(&mut self) {
         self.kept.clear();
     }
+}
+
+// Notes that a row holds a vector.
+fn push_change(
+    alloc: Global,
+    journal: &mut Vec<(Row, Vec<u32>)>,
+    row: Row,
+    vector: &[u32],
+) -> Result<(), Stop> {
+    let vector = Vec::from_slice(alloc, vector)?;
+    journal.push((row, vector)).map_err(Stop::from)
 }
