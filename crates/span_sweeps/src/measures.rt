@@ -53,11 +53,6 @@ struct Count {
 
 impl Count {
     fn add(&mut self, graph: &SpanGraph, event: &Event) -> Result<(), Stop> {
-        if let Some(toggle) = event.toggle() {
-            self.add_toggle(toggle);
-        }
-        // What a block does is undone twice: at its end, and on the way back.
-        let times = if self.block.is_some() { 4 } else { 2 };
         match event {
             Event::On {
                 toggle,
@@ -65,17 +60,17 @@ impl Count {
                 ..
             } => {
                 let has_home = graph.node(toggle.node)?.home.is_some();
-                self.add_toffoli(if has_home { 1 } else { times }, toggle)?;
+                self.add_toggle(if has_home { 1 } else { self.times() }, toggle);
                 if *is_fresh && !has_home {
                     self.hold(1);
                 }
             }
             Event::Off { toggle, .. } => {
-                self.add_toffoli(times, toggle)?;
+                self.add_toggle(self.times(), toggle);
                 self.held = self.held.saturating_sub(1);
             }
-            Event::Final { toggle } => self.add_toffoli(1, toggle)?,
-            Event::Part { toggle, .. } => self.add_toffoli(2, toggle)?,
+            Event::Final { toggle } => self.add_toggle(1, toggle),
+            Event::Part { toggle, .. } => self.add_toggle(2, toggle),
             Event::Open { rows } => {
                 self.hold(number(rows.len())?);
                 self.block = Some(self.held);
@@ -87,22 +82,23 @@ impl Count {
         Ok(())
     }
 
+    // How often a toggle is done: what a block does is undone twice, at its end and on the way
+    // back.
+    fn times(&self) -> u64 {
+        if self.block.is_some() { 4 } else { 2 }
+    }
+
     // So many work lines more are held.
     fn hold(&mut self, lines: u32) {
         self.held = self.held.saturating_add(lines);
         self.measures.work = self.measures.work.max(self.held);
     }
 
-    // The products of a toggle, so many times.
-    fn add_toffoli(&mut self, times: u64, toggle: &Toggle) -> Result<(), Stop> {
-        let products = u64::from(number(toggle.factors.len())?);
-        let gates = products.saturating_mul(times);
+    // The products of a toggle, so many times, and the additions of it and of what is gathered for
+    // it, there and back.
+    fn add_toggle(&mut self, times: u64, toggle: &Toggle) {
+        let gates = (toggle.factors.len() as u64).saturating_mul(times);
         self.measures.toffoli = self.measures.toffoli.saturating_add(gates);
-        Ok(())
-    }
-
-    // The additions of a toggle and of what is gathered for it, there and back.
-    fn add_toggle(&mut self, toggle: &Toggle) {
         self.add_cx(2, toggle.before.len());
         self.add_cx(2, toggle.after.len());
         for factors in &toggle.factors {

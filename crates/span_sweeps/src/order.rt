@@ -1,7 +1,7 @@
 // The order of the nodes.
 use bit_sums::{Product, Sum};
 use dependency_graph::Base;
-use span_rows::{Stop, at, at_mut, number};
+use span_rows::{Stop, at, at_mut, number, set};
 use std::alloc::Global;
 use sum_graph::SumGraph;
 
@@ -37,13 +37,13 @@ impl Order {
         for bit in bits {
             symbols.push(self.symbol(*bit)?)?;
         }
-        Ok(span_rows::falling(symbols)?)
+        span_rows::falling(symbols).map_err(Stop::from)
     }
 
     fn symbol(&self, bit: Base) -> Result<u32, Stop> {
         match bit {
             Base::Input(input) => Ok(input),
-            Base::Node(node) => Ok(*at(&self.symbols, node)?),
+            Base::Node(node) => at(&self.symbols, node).copied(),
         }
     }
 }
@@ -51,21 +51,7 @@ impl Order {
 // The nodes, each without products right before its first user; users that move count where they
 // go.
 fn late_order(alloc: Global, graph: &SumGraph) -> Result<Vec<u32>, Stop> {
-    let count = graph.nodes();
-    let mut users = vec![in alloc; count; count as usize]?;
-    let mut keys = Vec::with_capacity(alloc, count as usize)?;
-    for node in (0..count).rev() {
-        let sum = graph.node(node);
-        let has_products = !sum.products().is_empty();
-        let place = if has_products {
-            node
-        } else {
-            *at(&users, node)?
-        };
-        keys.push((place, has_products, node))?;
-        note_users(&mut users, sum, place)?;
-    }
-    keys.sort()?;
+    let keys = late_keys(alloc, graph)?;
     let mut nodes = Vec::with_capacity(alloc, keys.len())?;
     for (_, _, node) in &keys {
         nodes.push(*node)?;
@@ -73,8 +59,32 @@ fn late_order(alloc: Global, graph: &SumGraph) -> Result<Vec<u32>, Stop> {
     Ok(nodes)
 }
 
+// Of each node where it stands, whether it has products, and its name, rising.
+fn late_keys(alloc: Global, graph: &SumGraph) -> Result<Vec<(u32, bool, u32)>, Stop> {
+    let count = graph.nodes();
+    let mut users = vec![in alloc; count; count as usize]?;
+    let mut keys = Vec::with_capacity(alloc, count as usize)?;
+    for node in (0..count).rev() {
+        keys.push(late_key(graph.node(node), node, &mut users)?)?;
+    }
+    keys.sort()?;
+    Ok(keys)
+}
+
+// The key of a node, which is noted as a user.
+fn late_key(sum: &Sum, node: u32, users: &mut [u32]) -> Result<(u32, bool, u32), Stop> {
+    let has_products = !sum.products().is_empty();
+    let place = if has_products {
+        node
+    } else {
+        *at(users, node)?
+    };
+    note_users(users, sum, place)?;
+    Ok((place, has_products, node))
+}
+
 // Notes a user of all that a sum is made of, where it is the first so far.
-fn note_users(users: &mut Vec<u32>, sum: &Sum, place: u32) -> Result<(), Stop> {
+fn note_users(users: &mut [u32], sum: &Sum, place: u32) -> Result<(), Stop> {
     note_user(users, sum.bits(), place)?;
     for product in sum.products() {
         note_user(users, product.first(), place)?;
@@ -83,7 +93,7 @@ fn note_users(users: &mut Vec<u32>, sum: &Sum, place: u32) -> Result<(), Stop> {
     Ok(())
 }
 
-fn note_user(users: &mut Vec<u32>, bits: &[Base], place: u32) -> Result<(), Stop> {
+fn note_user(users: &mut [u32], bits: &[Base], place: u32) -> Result<(), Stop> {
     for bit in bits {
         if let Base::Node(node) = bit {
             let first = at_mut(users, *node)?;
@@ -97,7 +107,7 @@ fn note_user(users: &mut Vec<u32>, bits: &[Base], place: u32) -> Result<(), Stop
 fn inverse(alloc: Global, nodes: &[u32]) -> Result<Vec<u32>, Stop> {
     let mut places = vec![in alloc; 0; nodes.len()]?;
     for (place, node) in nodes.iter().enumerate() {
-        *at_mut(&mut places, *node)? = number(place)?;
+        set(&mut places, *node, number(place)?)?;
     }
     Ok(places)
 }
@@ -119,6 +129,17 @@ fn with_outputs(
     nodes: &[u32],
     places: &[u32],
 ) -> Result<Vec<u32>, Stop> {
+    let mut keys = node_keys(alloc, nodes)?;
+    push_output_keys(graph, places, &mut keys)?;
+    keys.sort()?;
+    let mut names = Vec::with_capacity(alloc, keys.len())?;
+    for key in &keys {
+        names.push(key.name)?;
+    }
+    Ok(names)
+}
+
+fn node_keys(alloc: Global, nodes: &[u32]) -> Result<Vec<Key>, Stop> {
     let mut keys = Vec::with_capacity(alloc, nodes.len())?;
     for (place, node) in nodes.iter().enumerate() {
         keys.push(Key {
@@ -128,6 +149,10 @@ fn with_outputs(
             name: *node,
         })?;
     }
+    Ok(keys)
+}
+
+fn push_output_keys(graph: &SumGraph, places: &[u32], keys: &mut Vec<Key>) -> Result<(), Stop> {
     for (k, output) in graph.outputs().iter().enumerate() {
         if let Some(product) = output.products().first() {
             keys.push(Key {
@@ -138,12 +163,7 @@ fn with_outputs(
             })?;
         }
     }
-    keys.sort()?;
-    let mut names = Vec::with_capacity(alloc, keys.len())?;
-    for key in &keys {
-        names.push(key.name)?;
-    }
-    Ok(names)
+    Ok(())
 }
 
 fn first_bits(product: &Product) -> Option<(Base, Base)> {
@@ -177,7 +197,8 @@ fn symbols_of(alloc: Global, graph: &SumGraph, names: &[u32]) -> Result<Vec<u32>
     let mut symbols = vec![in alloc; 0; graph.nodes() as usize]?;
     for (place, name) in names.iter().enumerate() {
         if *name < graph.nodes() {
-            *at_mut(&mut symbols, *name)? = graph.inputs().saturating_add(number(place)?);
+            let symbol = graph.inputs().saturating_add(number(place)?);
+            set(&mut symbols, *name, symbol)?;
         }
     }
     Ok(symbols)

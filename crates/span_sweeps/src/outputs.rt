@@ -14,7 +14,7 @@ pub fn outputs_of(
     alloc: Global,
     graph: &SumGraph,
     order: &Order,
-    nodes: &mut Vec<Node>,
+    nodes: &mut [Node],
 ) -> Result<Vec<Output>, Stop> {
     let mut work: usize = 0;
     let mut outputs = Vec::with_capacity(alloc, graph.outputs().len())?;
@@ -33,7 +33,7 @@ fn output_of(
     alloc: Global,
     inputs: u32,
     order: &Order,
-    nodes: &mut Vec<Node>,
+    nodes: &mut [Node],
     sum: &Sum,
     k: u32,
     work: &mut usize,
@@ -75,41 +75,48 @@ struct Writing {
 }
 
 impl Writing {
-    // Writes the final nodes out; those with products learn the output as a target.
-    fn write_finals(&mut self, nodes: &mut Vec<Node>, output: u32) -> Result<(), Stop> {
+    // Writes the final nodes out.
+    fn write_finals(&mut self, nodes: &mut [Node], output: u32) -> Result<(), Stop> {
         let mut behind: usize = 0;
         let symbols = nodes.len().saturating_add(self.inputs as usize);
         for _ in 0..symbols {
             let Some(symbol) = self.vector.get(behind).copied() else {
                 break;
             };
-            let node = match symbol.checked_sub(self.inputs) {
-                Some(place) if at(nodes, place)?.is_final => place,
-                _ => {
-                    behind = behind.saturating_add(1);
-                    continue;
-                }
-            };
-            self.write(nodes, node)?;
-            let target = at_mut(nodes, node)?;
-            if !target.is_linear() {
-                target.targets.push(output)?;
-                self.has_products = true;
+            match self.final_node(nodes, symbol)? {
+                Some(place) => self.write_final(nodes, place, output)?,
+                None => behind = behind.saturating_add(1),
             }
         }
         Ok(())
     }
 
+    // The place of a final node that has this symbol.
+    fn final_node(&self, nodes: &[Node], symbol: u32) -> Result<Option<u32>, Stop> {
+        match symbol.checked_sub(self.inputs) {
+            Some(place) if at(nodes, place)?.is_final => Ok(Some(place)),
+            _ => Ok(None),
+        }
+    }
+
+    // Writes a final node out; if it has products, it learns the output as a target.
+    fn write_final(&mut self, nodes: &mut [Node], place: u32, output: u32) -> Result<(), Stop> {
+        self.write(nodes, place)?;
+        let node = at_mut(nodes, place)?;
+        if node.is_linear() {
+            return Ok(());
+        }
+        self.has_products = true;
+        node.targets.push(output).map_err(Stop::from)
+    }
+
     // Writes nodes without products out while one is the greatest.
     fn write_top(&mut self, nodes: &[Node]) -> Result<(), Stop> {
         for _ in 0..nodes.len() {
-            let Some(place) = top_node(self.inputs, &self.vector) else {
-                break;
-            };
-            if !at(nodes, place)?.is_linear() {
-                break;
+            match top_node(self.inputs, &self.vector) {
+                Some(place) if at(nodes, place)?.is_linear() => self.write(nodes, place)?,
+                _ => break,
             }
-            self.write(nodes, place)?;
         }
         Ok(())
     }
@@ -130,18 +137,13 @@ impl Writing {
     }
 }
 
-// The node whose symbol is the greatest of a vector.
-fn top_node(inputs: u32, vector: &[u32]) -> Option<u32> {
+/// The node whose symbol is the greatest of a vector.
+pub fn top_node(inputs: u32, vector: &[u32]) -> Option<u32> {
     vector.first().and_then(|symbol| symbol.checked_sub(inputs))
 }
 
 // Lends the line of an output to the greatest node of its sum, if that has no home yet.
-fn take_home(
-    inputs: u32,
-    vector: &[u32],
-    nodes: &mut Vec<Node>,
-    output: u32,
-) -> Result<bool, Stop> {
+fn take_home(inputs: u32, vector: &[u32], nodes: &mut [Node], output: u32) -> Result<bool, Stop> {
     let Some(place) = top_node(inputs, vector) else {
         return Ok(false);
     };

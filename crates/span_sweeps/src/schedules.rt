@@ -1,6 +1,6 @@
 // In which order nodes are toggled on and off.
 use crate::graph::{Node, SpanGraph};
-use span_rows::{Stop, at, at_mut, number};
+use span_rows::{Stop, at, is_set, number, set};
 use std::alloc::Global;
 
 /// A turn of a schedule: a node, by its place in the order, is made, or is to be there no more.
@@ -42,46 +42,63 @@ pub fn schedule(
             from: *from,
             to: next.copied().unwrap_or(count),
         };
-        if blocks.iter().any(|block| block.from == part.from) {
-            turns.push(Turn::Open)?;
-        }
-        for place in part.from..part.to {
-            turns.push(Turn::On(place))?;
-        }
+        part.push_on(blocks, &mut turns)?;
         if segment < cleaned {
             part.mark_inner(graph, &mut inner)?;
         }
         if starts.len() > 1 {
             part.push_off(graph, &inner, copies, &mut turns)?;
         }
-        for block in blocks.iter().filter(|block| block.to == part.to) {
-            turns.push(Turn::Close(*block))?;
-        }
+        part.push_close(blocks, &mut turns)?;
     }
     Ok(turns)
 }
 
 impl Range {
-    // Marks its nodes that are in factors of it, or in the bits of such a node.
-    fn mark_inner(self, graph: &SpanGraph, inner: &mut Vec<bool>) -> Result<(), Stop> {
+    // Appends the turns by which its nodes are made, and a block begins with it, if one does.
+    fn push_on(self, blocks: &[Range], turns: &mut Vec<Turn>) -> Result<(), Stop> {
+        if blocks.iter().any(|block| block.from == self.from) {
+            turns.push(Turn::Open)?;
+        }
         for place in self.from..self.to {
-            for product in &graph.node(place)?.products {
-                self.mark(graph, &product.first, inner)?;
-                self.mark(graph, &product.second, inner)?;
-            }
+            turns.push(Turn::On(place))?;
+        }
+        Ok(())
+    }
+
+    // Appends the turns by which blocks end with it.
+    fn push_close(self, blocks: &[Range], turns: &mut Vec<Turn>) -> Result<(), Stop> {
+        for block in blocks.iter().filter(|block| block.to == self.to) {
+            turns.push(Turn::Close(*block))?;
+        }
+        Ok(())
+    }
+
+    // Marks its nodes that are in factors of it, or in the bits of such a node.
+    fn mark_inner(self, graph: &SpanGraph, inner: &mut [bool]) -> Result<(), Stop> {
+        for place in self.from..self.to {
+            self.mark_factors(graph, graph.node(place)?, inner)?;
         }
         for place in (self.from..self.to).rev() {
-            if *at(inner, place)? {
+            if is_set(inner, place) {
                 self.mark(graph, graph.node(place)?.bits(), inner)?;
             }
         }
         Ok(())
     }
 
-    fn mark(self, graph: &SpanGraph, symbols: &[u32], inner: &mut Vec<bool>) -> Result<(), Stop> {
+    fn mark_factors(self, graph: &SpanGraph, node: &Node, inner: &mut [bool]) -> Result<(), Stop> {
+        for product in &node.products {
+            self.mark(graph, &product.first, inner)?;
+            self.mark(graph, &product.second, inner)?;
+        }
+        Ok(())
+    }
+
+    fn mark(self, graph: &SpanGraph, symbols: &[u32], inner: &mut [bool]) -> Result<(), Stop> {
         for symbol in symbols {
             match graph.place(*symbol) {
-                Some(place) if place >= self.from => *at_mut(inner, place)? = true,
+                Some(place) if place >= self.from => set(inner, place, true)?,
                 _ => {}
             }
         }
@@ -122,13 +139,14 @@ pub fn chains(alloc: Global, graph: &SpanGraph) -> Result<Vec<u32>, Stop> {
         if node.is_linear() {
             continue;
         }
+        let place = number(place)?;
         if before.is_some_and(|symbol| is_made_of(node, symbol)) {
             is_linked = true;
         } else if is_linked {
-            starts.push(number(place)?)?;
+            starts.push(place)?;
             is_linked = false;
         }
-        before = Some(graph.symbol(number(place)?));
+        before = Some(graph.symbol(place));
     }
     Ok(starts)
 }

@@ -46,21 +46,7 @@ pub fn sweep(
     };
     insert_outputs(&mut sweep)?;
     let ends = ends_of(&mut sweep)?;
-    let mut events = Vec::new(alloc);
-    let mut noted: usize = 0;
-    let mut ranks = Vec::with_capacity(alloc, turns.len())?;
-    for turn in turns.iter().rev() {
-        if let Some(event) = back_over(&mut sweep, *turn)? {
-            noted = noted.saturating_add(event.size());
-            events.push(event)?;
-        }
-        ranks.push(sweep.rows.rank())?;
-        if noted > MOST_NOTED {
-            return Err(Stop::Lost);
-        }
-    }
-    events.reverse();
-    ranks.reverse();
+    let (events, ranks) = back_over_all(&mut sweep, turns)?;
     let first = first_rows(&mut sweep)?;
     let measures = Measures::of(graph, &events, &first, &ends)?;
     Ok(Swept {
@@ -74,30 +60,70 @@ pub fn sweep(
     })
 }
 
+// Goes back over all turns; the events, and the rank before each turn, in their order.
+fn back_over_all(sweep: &mut Sweep<'_>, turns: &[Turn]) -> Result<(Vec<Event>, Vec<u32>), Stop> {
+    let mut events = Vec::new(sweep.alloc);
+    let mut ranks = Vec::with_capacity(sweep.alloc, turns.len())?;
+    let mut noted: usize = 0;
+    for turn in turns.iter().rev() {
+        noted = noted.saturating_add(push_event(sweep, *turn, &mut events)?);
+        ranks.push(sweep.rows.rank())?;
+        if noted > MOST_NOTED {
+            return Err(Stop::Lost);
+        }
+    }
+    events.reverse();
+    ranks.reverse();
+    Ok((events, ranks))
+}
+
+// Goes back over a turn; how much its event notes, where there is one.
+fn push_event(sweep: &mut Sweep<'_>, turn: Turn, events: &mut Vec<Event>) -> Result<usize, Stop> {
+    let Some(event) = back_over(sweep, turn)? else {
+        return Ok(0);
+    };
+    let size = event.size();
+    events.push(event)?;
+    Ok(size)
+}
+
 // No rows, over the symbols of the graph.
 fn begun_rows(alloc: Global, graph: &SpanGraph, forced: &[bool], most: u64) -> Result<Rows, Stop> {
-    let inputs = graph.inputs as usize;
-    let mut linear = vec![in alloc; false; inputs]?;
-    for node in &graph.nodes {
-        linear.push(node.is_linear())?;
-    }
-    let mut alone = vec![in alloc; false; inputs]?;
+    let linear = linear_symbols(alloc, graph)?;
+    let mut alone = vec![in alloc; false; graph.inputs as usize]?;
     alone.extend_from_slice(forced)?;
     Rows::new(alloc, linear, alone, most)
 }
 
+// Of each symbol, whether it is that of a node without products.
+fn linear_symbols(alloc: Global, graph: &SpanGraph) -> Result<Vec<bool>, Stop> {
+    let mut linear = vec![in alloc; false; graph.inputs as usize]?;
+    for node in &graph.nodes {
+        linear.push(node.is_linear())?;
+    }
+    Ok(linear)
+}
+
 // What is wanted in the end: the nodes that have homes, and the other outputs.
 fn insert_outputs(sweep: &mut Sweep<'_>) -> Result<(), Stop> {
-    let (alloc, graph) = (sweep.alloc, sweep.graph);
-    let mut done = Inserted::none(alloc);
-    for node in &graph.nodes {
+    let mut done = Inserted::none(sweep.alloc);
+    insert_homes(sweep, &mut done)?;
+    insert_ends(sweep, &mut done)
+}
+
+fn insert_homes(sweep: &mut Sweep<'_>, done: &mut Inserted) -> Result<(), Stop> {
+    for node in &sweep.graph.nodes {
         if node.home.is_some() {
-            sweep.rows.insert(alloc, &node.event, &mut done)?;
+            sweep.rows.insert(sweep.alloc, &node.event, done)?;
         }
     }
-    for output in &graph.outputs {
+    Ok(())
+}
+
+fn insert_ends(sweep: &mut Sweep<'_>, done: &mut Inserted) -> Result<(), Stop> {
+    for output in &sweep.graph.outputs {
         if !output.has_home {
-            sweep.rows.insert(alloc, &output.vector, &mut done)?;
+            sweep.rows.insert(sweep.alloc, &output.vector, done)?;
         }
     }
     Ok(())
@@ -105,12 +131,11 @@ fn insert_outputs(sweep: &mut Sweep<'_>) -> Result<(), Stop> {
 
 // The rows of the outputs without homes.
 fn ends_of(sweep: &mut Sweep<'_>) -> Result<Vec<End>, Stop> {
-    let (alloc, graph) = (sweep.alloc, sweep.graph);
-    let mut ends = Vec::new(alloc);
-    for (k, output) in graph.outputs.iter().enumerate() {
+    let mut ends = Vec::new(sweep.alloc);
+    for (k, output) in sweep.graph.outputs.iter().enumerate() {
         if !output.has_home {
-            let rows = sweep.rows.rows_of(alloc, &output.vector)?;
             let onto = number(k)?;
+            let rows = sweep.rows.rows_of(sweep.alloc, &output.vector)?;
             ends.push(End { onto, rows })?;
         }
     }
@@ -144,7 +169,8 @@ fn first_rows(sweep: &mut Sweep<'_>) -> Result<Vec<(Row, Vec<u32>)>, Stop> {
     let mut first = Vec::new(sweep.alloc);
     for input in (0..sweep.graph.inputs).rev() {
         if let Some(row) = sweep.rows.with_head(input)? {
-            first.push((row, sweep.rows.take(sweep.alloc, row)?))?;
+            let vector = sweep.rows.take(sweep.alloc, row)?;
+            first.push((row, vector))?;
         }
     }
     Ok(first)
