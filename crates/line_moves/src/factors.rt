@@ -1,7 +1,8 @@
 // Where the factors of products are gathered.
-use crate::lines::{common, without};
+use crate::lines::{NOWHERE, are_among, common, pass_copy, without};
 use crate::moves::{Gathering, Gatherings};
-use span_rows::{Stop, at, at_mut};
+use revc_base::Memory;
+use span_rows::Stop;
 use std::alloc::Global;
 
 /// The most copies around the products of one toggle.
@@ -34,12 +35,32 @@ pub struct Held {
 impl Held {
     /// Whether no other product than the one at place `k` has the lines that hold the factors.
     pub fn is_apart(&self, products: &[FactorLines], k: usize) -> bool {
-        products.iter().enumerate().all(|(place, other)| place == k
-            || !other.has(self.first) && !other.has(self.second))
+        for (place, other) in products.iter().enumerate() {
+            if place != k && (other.has(self.first) || other.has(self.second)) {
+                return false;
+            }
+        }
+        true
+    }
+
+    /// The lines that hold the factors, as where these are gathered behind the copies.
+    pub fn gatherings(&self, alloc: Global) -> Result<Vec<Gatherings>, Memory> {
+        let mut gatherings = Vec::new(alloc);
+        gatherings.push(Gatherings {
+            first: Gathering {
+                on: self.first,
+                others: Vec::new(alloc),
+            },
+            second: Gathering {
+                on: self.second,
+                others: Vec::new(alloc),
+            },
+        })?;
+        Ok(gatherings)
     }
 
     /// The lines of both factors behind the copies.
-    pub fn lines(&self, alloc: Global) -> Result<FactorLines, Stop> {
+    pub fn lines(&self, alloc: Global) -> Result<FactorLines, Memory> {
         Ok(FactorLines {
             first: Vec::from_slice(alloc, &[self.first])?,
             second: Vec::from_slice(alloc, &[self.second])?,
@@ -55,61 +76,77 @@ impl FactorLines {
 
 impl Habits {
     /// None yet, of so many lines.
-    pub fn new(alloc: Global, lines: u32) -> Result<Habits, Stop> {
-        let mut gathered = Vec::with_capacity(alloc, lines as usize)?;
+    pub fn new(alloc: Global, lines: u32) -> Result<Habits, Memory> {
+        let mut gathered = Vec::new(alloc);
         for _ in 0..lines {
             gathered.push(Vec::new(alloc))?;
         }
         Ok(Habits { gathered })
     }
 
-    // Of some lines the first that is among `own`; else that on which the most of the lines `all`
-    // were gathered the last time, so that equal CX gates meet.
-    fn choice(&self, some: &[u32], all: &[u32], own: &[u32]) -> Result<u32, Stop> {
+    // Of the lines of a factor that the other one has not, or of all where there are none, the
+    // first that is among `own`; else that on which the most of its lines were gathered the last
+    // time, so that equal CX gates meet.
+    fn choice(&self, lines: &[u32], others: &[u32], own: &[u32]) -> u32 {
+        let is_any = are_among(lines, others);
         let mut best = None;
-        for line in some {
-            if own.contains(line) {
-                return Ok(*line);
+        for line in lines {
+            if is_any || others.binary_search(line).is_err() {
+                if own.contains(line) {
+                    return *line;
+                }
+                let alike = match self.gathered.get(*line as usize) {
+                    Some(gathered) if lines.len() <= MOST_COMPARED => common(gathered, lines),
+                    _ => 0,
+                };
+                best = best.max(Some((alike, *line)));
             }
-            let alike = if all.len() <= MOST_COMPARED {
-                common(at(&self.gathered, *line)?, all)
-            } else {
-                0
-            };
-            best = best.max(Some((alike, *line)));
         }
-        let (_, line) = best.ok_or(Stop::Lost)?;
-        Ok(line)
+        match best {
+            Some((_, line)) => line,
+            None => NOWHERE,
+        }
     }
 
-    fn note(&mut self, alloc: Global, line: u32, all: &[u32]) -> Result<(), Stop> {
-        *at_mut(&mut self.gathered, line)? = Vec::from_slice(alloc, all)?;
+    fn note(&mut self, alloc: Global, line: u32, all: &[u32]) -> Result<(), Memory> {
+        let place = line as usize;
+        if place < self.gathered.len() {
+            self.gathered[place] = Vec::from_slice(alloc, all)?;
+        }
         Ok(())
+    }
+
+    // The lines on which both factors are gathered.
+    fn choose(
+        &mut self,
+        alloc: Global,
+        lines: &FactorLines,
+        own: &[u32],
+    ) -> Result<(u32, u32), Memory> {
+        let first = self.choice(&lines.first, &lines.second, own);
+        let second = self.choice(&lines.second, &lines.first, own);
+        self.note(alloc, first, &lines.first)?;
+        self.note(alloc, second, &lines.second)?;
+        Ok((first, second))
     }
 
     /// Gathers both factors by copies. Where one's lines are among the other's, the lesser one is
     /// gathered first, and added to the rest of the other. What is gathered on lines of `own` may
     /// stay.
-    pub fn held(&mut self, alloc: Global, lines: &FactorLines, own: &[u32]) -> Result<Held, Stop> {
+    pub fn held(
+        &mut self,
+        alloc: Global,
+        lines: &FactorLines,
+        own: &[u32],
+    ) -> Result<Held, Memory> {
+        let (first, second) = self.choose(alloc, lines, own)?;
         let (a, b) = (lines.first.as_slice(), lines.second.as_slice());
-        let (a_alone, b_alone) = (without(alloc, a, b)?, without(alloc, b, a)?);
-        let first = self.choice(if a_alone.is_empty() { a } else { &a_alone }, a, own)?;
-        let second = self.choice(if b_alone.is_empty() { b } else { &b_alone }, b, own)?;
         let mut copies = Vec::new(alloc);
-        if a_alone.is_empty() {
-            gather(&mut copies, a, first)?;
-            gather(&mut copies, &b_alone, second)?;
-            copies.push((first, second))?;
-        } else if b_alone.is_empty() {
-            gather(&mut copies, b, second)?;
-            gather(&mut copies, &a_alone, first)?;
-            copies.push((second, first))?;
+        if are_among(a, b) || !are_among(b, a) {
+            gather_both(&mut copies, a, first, b, second)?;
         } else {
-            gather(&mut copies, a, first)?;
-            gather(&mut copies, b, second)?;
+            gather_both(&mut copies, b, second, a, first)?;
         }
-        self.note(alloc, first, a)?;
-        self.note(alloc, second, b)?;
         Ok(Held {
             copies,
             first,
@@ -117,49 +154,69 @@ impl Habits {
         })
     }
 
-    /// Gathers both factors for the moment of the flip. No line of the second one is that on which
-    /// the first one is gathered.
-    pub fn gatherings(&mut self, alloc: Global, lines: &FactorLines) -> Result<Gatherings, Stop> {
-        let (a, b) = (lines.first.as_slice(), lines.second.as_slice());
-        let (a_alone, b_alone) = (without(alloc, a, b)?, without(alloc, b, a)?);
-        let first = self.choice(&a_alone, a, &[])?;
-        let second = self.choice(if b_alone.is_empty() { b } else { &b_alone }, b, &[])?;
-        self.note(alloc, first, a)?;
-        self.note(alloc, second, b)?;
+    /// Gathers both factors for the moment of the flip. Where they are not tangled, no line of the
+    /// second one is that on which the first one is gathered.
+    pub fn gatherings(&mut self, alloc: Global, lines: &FactorLines) -> Result<Gatherings, Memory> {
+        let (first, second) = self.choose(alloc, lines, &[])?;
         Ok(Gatherings {
-            first: gathering(alloc, a, first)?,
-            second: gathering(alloc, b, second)?,
+            first: gathering(alloc, &lines.first, first)?,
+            second: gathering(alloc, &lines.second, second)?,
         })
     }
 }
 
-// Appends the copies of some lines to one of them.
-fn gather(copies: &mut Vec<(u32, u32)>, lines: &[u32], on: u32) -> Result<(), Stop> {
+// Appends the copies of the lines that are not among `others` to one of them.
+fn gather(
+    copies: &mut Vec<(u32, u32)>,
+    lines: &[u32],
+    others: &[u32],
+    on: u32,
+) -> Result<(), Memory> {
     for line in lines {
-        if *line != on {
+        if *line != on && others.binary_search(line).is_err() {
             copies.push((*line, on))?;
         }
     }
     Ok(())
 }
 
-fn gathering(alloc: Global, lines: &[u32], on: u32) -> Result<Gathering, Stop> {
+// Appends the copies that gather two factors. Where the lines `a` are among the lines `b`, the
+// first factor is added to the rest of the second.
+fn gather_both(
+    copies: &mut Vec<(u32, u32)>,
+    a: &[u32],
+    a_on: u32,
+    b: &[u32],
+    b_on: u32,
+) -> Result<(), Memory> {
+    gather(copies, a, &[], a_on)?;
+    if !are_among(a, b) {
+        return gather(copies, b, &[], b_on);
+    }
+    gather(copies, b, a, b_on)?;
+    Ok(copies.push((a_on, b_on))?)
+}
+
+fn gathering(alloc: Global, lines: &[u32], on: u32) -> Result<Gathering, Memory> {
     let others = without(alloc, lines, &[on])?;
     Ok(Gathering { on, others })
 }
 
-/// Copies around the products of a toggle after which no first factor's lines are among the second
-/// one's; the products' lines become those behind the copies.
-pub fn untangle(alloc: Global, products: &mut Vec<FactorLines>) -> Result<Vec<(u32, u32)>, Stop> {
-    let mut copies = Vec::new(alloc);
+/// Appends copies around the products of a toggle after which no first factor's lines are among the
+/// second one's; the products' lines become those behind the copies.
+pub fn untangle(
+    alloc: Global,
+    products: &mut [FactorLines],
+    copies: &mut Vec<(u32, u32)>,
+) -> Result<(), Stop> {
     for turn in 0..MOST_COPIES {
         let Some((from, to)) = tangle(alloc, products, turn)? else {
-            return Ok(copies);
+            return Ok(());
         };
         copies.push((from, to))?;
         for product in products.iter_mut() {
-            product.first = behind_copy(alloc, &product.first, from, to)?;
-            product.second = behind_copy(alloc, &product.second, from, to)?;
+            pass_copy(&mut product.first, from, to)?;
+            pass_copy(&mut product.second, from, to)?;
         }
     }
     Err(Stop::Lost)
@@ -171,31 +228,22 @@ fn tangle(
     alloc: Global,
     products: &[FactorLines],
     turn: usize,
-) -> Result<Option<(u32, u32)>, Stop> {
+) -> Result<Option<(u32, u32)>, Memory> {
     for product in products {
-        if without(alloc, &product.first, &product.second)?.is_empty() {
+        if are_among(&product.first, &product.second) {
             let rest = without(alloc, &product.second, &product.first)?;
-            let (from, to) = (one_of(&product.first, turn)?, one_of(&rest, turn / 2)?);
-            return Ok(Some((from, to)));
+            let from = one_of(&product.first, turn);
+            return Ok(Some((from, one_of(&rest, turn / 2))));
         }
     }
     Ok(None)
 }
 
-fn one_of(lines: &[u32], turn: usize) -> Result<u32, Stop> {
-    let place = turn.checked_rem(lines.len()).ok_or(Stop::Lost)?;
-    Ok(*lines.get(place).ok_or(Stop::Lost)?)
-}
-
-// The lines that sum to the same behind a copy of `from` to `to`.
-fn behind_copy(alloc: Global, lines: &[u32], from: u32, to: u32) -> Result<Vec<u32>, Stop> {
-    if !lines.contains(&to) {
-        return Ok(Vec::from_slice(alloc, lines)?);
+// One of some lines, by the turn.
+fn one_of(lines: &[u32], turn: usize) -> u32 {
+    let count = lines.len();
+    if count == 0 {
+        return NOWHERE;
     }
-    let mut behind = without(alloc, lines, &[from])?;
-    if behind.len() == lines.len() {
-        behind.push(from)?;
-        behind.sort()?;
-    }
-    Ok(behind)
+    lines[turn % count]
 }

@@ -4,7 +4,7 @@ use std::alloc::Global;
 
 /// A step between lines: a copy, or a toggle of a node, whose gatherings stand at a place of a
 /// list.
-#[derive(Clone, Copy, PartialEq, Eq)]
+#[derive(Clone, Copy)]
 pub enum Move {
     Copy { from: u32, to: u32 },
     Toggle { node: u32, onto: u32, place: u32 },
@@ -77,14 +77,17 @@ impl Moves {
         onto: u32,
         gatherings: Vec<Gatherings>,
     ) -> Result<(), Stop> {
-        let place = number(self.gatherings.len())?;
+        let place = self.gatherings.len();
         self.gatherings.push(gatherings)?;
+        let place = number(place)?;
         self.push(Move::Toggle { node, onto, place })
     }
 
     /// Appends the move at a place once more.
     pub fn again(&mut self, place: usize) -> Result<(), Stop> {
-        let step = *self.list.get(place).ok_or(Stop::Lost)?;
-        self.push(step)
+        match self.list.get(place).copied() {
+            Some(step) => self.push(step),
+            None => Err(Stop::Lost),
+        }
     }
 }

@@ -1,6 +1,7 @@
 // Copies that moves can do without.
-use crate::moves::{Gatherings, Move, Moves};
-use span_rows::{Stop, at, at_mut};
+use crate::moves::{Gathering, Gatherings, Move, Moves};
+use revc_base::Memory;
+use span_rows::Stop;
 use std::alloc::Global;
 
 /// How many copies to one line are looked through for one that stands there again.
@@ -17,65 +18,54 @@ const MOST_WORK: usize = 12_000_000;
 /// of `a` to `b`, `c` to `a`, `a` to `b` are left `c` to `a`, `c` to `b`. A pass takes time near
 /// linear in the moves.
 pub fn shortened(alloc: Global, moves: Moves, lines: u32) -> Result<Moves, Stop> {
-    let Moves {
-        mut list,
-        gatherings,
-    } = moves;
+    let mut moves = moves;
     let mut work: usize = 0;
     for _ in 0..MOST_PASSES {
-        let length = list.len();
+        let length = moves.len();
         work = work.saturating_add(length);
         if work > MOST_WORK {
             break;
         }
-        list = passed(alloc, &list, &gatherings, lines)?;
-        if list.len() == length {
+        moves.list = passed(alloc, &moves, lines)?;
+        if moves.len() == length {
             break;
         }
     }
-    Ok(Moves { list, gatherings })
+    Ok(moves)
 }
 
 // What becomes of a move: it stays, goes, or gets a copy beside it.
-#[derive(Clone, Copy, PartialEq, Eq)]
+#[derive(Clone, Copy)]
 enum Edit {
     Stay,
     Go,
     With { from: u32, to: u32 },
 }
 
-// One pass over moves.
-fn passed(
-    alloc: Global,
-    list: &[Move],
-    gatherings: &[Vec<Gatherings>],
-    lines: u32,
-) -> Result<Vec<Move>, Stop> {
-    let mut pass = Pass::new(alloc, list, lines)?;
-    for (place, step) in list.iter().enumerate() {
-        match step {
-            Move::Copy { from, to } => pass.copy(place, *from, *to)?,
+// One pass over moves. Those that name a line which is not among so many stay.
+fn passed(alloc: Global, moves: &Moves, lines: u32) -> Result<Vec<Move>, Memory> {
+    let mut pass = Pass::new(alloc, &moves.list, lines)?;
+    for (place, step) in moves.list.iter().enumerate() {
+        match *step {
+            Move::Copy { from, to } => pass.copy(place, from, to)?,
             Move::Toggle {
                 onto,
                 place: gathered,
                 ..
-            } => pass.toggle(place, *onto, at(gatherings, *gathered)?)?,
+            } => pass.toggle(place, onto, moves.gatherings.get(gathered as usize)),
         }
     }
-    edited(alloc, list, &pass.edits)
+    edited(alloc, &moves.list, &pass.edits)
 }
 
-fn edited(alloc: Global, list: &[Move], edits: &[Edit]) -> Result<Vec<Move>, Stop> {
-    let mut rest = Vec::with_capacity(alloc, list.len())?;
+fn edited(alloc: Global, list: &[Move], edits: &[Edit]) -> Result<Vec<Move>, Memory> {
+    let mut rest = Vec::new(alloc);
     for (step, edit) in list.iter().zip(edits) {
-        match edit {
-            Edit::Stay => rest.push(*step)?,
-            Edit::Go => {}
-            Edit::With { from, to } => {
-                rest.push(*step)?;
-                let (from, to) = (*from, *to);
-                rest.push(Move::Copy { from, to })?;
-            }
+        if !matches!(edit, Edit::Go) {
+            rest.push(*step)?;
+        }
+        if let Edit::With { from, to } = *edit {
+            rest.push(Move::Copy { from, to })?;
         }
     }
     Ok(rest)
@@ -83,7 +73,7 @@ fn edited(alloc: Global, list: &[Move], edits: &[Edit]) -> Result<Vec<Move>, Sto
 
 // What stands between two equal copies and keeps them from meeting: moves that change the line that
 // is copied, or read the one that it is copied to.
-#[derive(Clone, Copy, PartialEq, Eq)]
+#[derive(Clone, Copy)]
 enum Between {
     Nothing,
     One(usize),
@@ -92,13 +82,12 @@ enum Between {
 
 impl Between {
     fn and(self, other: Between) -> Between {
-        if self == Between::Nothing || self == other {
-            return other;
+        match (self, other) {
+            (Between::Nothing, _) => other,
+            (_, Between::Nothing) => self,
+            (Between::One(first), Between::One(second)) if first == second => self,
+            _ => Between::More,
         }
-        if other == Between::Nothing {
-            return self;
-        }
-        Between::More
     }
 }
 
@@ -124,8 +113,10 @@ impl LastTwo {
 
     // Which of them stand behind a place.
     fn behind(self, place: usize) -> Between {
-        if self.before.is_some_and(|before| before > place) {
-            return Between::More;
+        if let Some(before) = self.before {
+            if before > place {
+                return Between::More;
+            }
         }
         match self.last {
             Some(last) if last > place => Between::One(last),
@@ -143,6 +134,14 @@ struct Line {
     changes: LastTwo,
 }
 
+impl Line {
+    // Takes out the place of the copy from a line.
+    fn take_copy(&mut self, from: u32) -> Option<usize> {
+        let found = self.copies.iter().position(|copy| copy.0 == from)?;
+        Some(self.copies.swap_remove(found).1)
+    }
+}
+
 #[derive(Drop)]
 struct Pass<'m> {
     list: &'m [Move],
@@ -151,8 +150,9 @@ struct Pass<'m> {
 }
 
 impl<'m> Pass<'m> {
-    fn new(alloc: Global, list: &'m [Move], count: u32) -> Result<Pass<'m>, Stop> {
-        let mut lines = Vec::with_capacity(alloc, count as usize)?;
+    fn new(alloc: Global, list: &'m [Move], count: u32) -> Result<Pass<'m>, Memory> {
+        let edits = vec![in alloc; Edit::Stay; list.len()]?;
+        let mut lines = Vec::new(alloc);
         for _ in 0..count {
             lines.push(Line {
                 copies: Vec::new(alloc),
@@ -160,109 +160,123 @@ impl<'m> Pass<'m> {
                 changes: LastTwo::NONE,
             })?;
         }
-        let edits = vec![in alloc; Edit::Stay; list.len()]?;
         Ok(Pass { list, edits, lines })
     }
 
-    fn copy(&mut self, place: usize, from: u32, to: u32) -> Result<(), Stop> {
-        let Some(other) = self.open_copy(from, to)? else {
-            return self.keep(place, from, to);
-        };
-        let reads = at(&self.lines, to)?.reads.behind(other);
-        let changes = at(&self.lines, from)?.changes.behind(other);
-        match reads.and(changes) {
-            Between::Nothing => self.drop_both(other, place),
-            Between::One(between) => match self.beside(between, from, to)? {
-                Some(edit) => {
-                    *self.edits.get_mut(between).ok_or(Stop::Lost)? = edit;
-                    self.drop_both(other, place)?;
-                    // What the copies did is done between them now: no pair meets over that.
-                    self.note(place, from, to)
-                }
-                None => self.keep(place, from, to),
-            },
-            Between::More => self.keep(place, from, to),
+    fn copy(&mut self, place: usize, from: u32, to: u32) -> Result<(), Memory> {
+        match self.open_copy(from, to) {
+            Some(other) if self.meets(other, place, from, to) => Ok(()),
+            _ => self.keep(place, from, to),
         }
+    }
+
+    // Whether a copy meets its like; both go then.
+    fn meets(&mut self, other: usize, place: usize, from: u32, to: u32) -> bool {
+        match self.between(other, from, to) {
+            Between::Nothing => {}
+            Between::One(between) => match self.beside(between, from, to) {
+                Some(edit) => {
+                    self.edit(between, edit);
+                    // What the copies did is done between them now: no pair meets over that.
+                    self.note(place, from, to);
+                }
+                None => return false,
+            },
+            Between::More => return false,
+        }
+        self.edit(other, Edit::Go);
+        self.edit(place, Edit::Go);
+        true
     }
 
     // The place of the last copy of `from` to `to`, if it may still meet its like; it is looked at
     // once.
-    fn open_copy(&mut self, from: u32, to: u32) -> Result<Option<usize>, Stop> {
-        let copies = &mut at_mut(&mut self.lines, to)?.copies;
-        let Some(found) = copies.iter().position(|copy| copy.0 == from) else {
-            return Ok(None);
-        };
-        let (_, place) = copies.swap_remove(found);
-        if self.edits.get(place) == Some(&Edit::Stay) {
-            Ok(Some(place))
-        } else {
-            Ok(None)
+    fn open_copy(&mut self, from: u32, to: u32) -> Option<usize> {
+        let place = self.lines.get_mut(to as usize)?.take_copy(from)?;
+        if self.stays(place) { Some(place) } else { None }
+    }
+
+    // What stands behind the place of a copy of `from` to `to`.
+    fn between(&self, place: usize, from: u32, to: u32) -> Between {
+        let (from, to) = (from as usize, to as usize);
+        if from >= self.lines.len() || to >= self.lines.len() {
+            return Between::More;
         }
+        let reads = self.lines[to].reads.behind(place);
+        reads.and(self.lines[from].changes.behind(place))
+    }
+
+    fn stays(&self, place: usize) -> bool {
+        place < self.edits.len() && matches!(self.edits[place], Edit::Stay)
     }
 
     // The copy that stands for two copies of `from` to `to` beside the copy between them.
-    fn beside(&self, between: usize, from: u32, to: u32) -> Result<Option<Edit>, Stop> {
-        if self.edits.get(between) != Some(&Edit::Stay) {
-            return Ok(None);
+    fn beside(&self, between: usize, from: u32, to: u32) -> Option<Edit> {
+        if !self.stays(between) {
+            return None;
         }
-        match self.list.get(between).ok_or(Stop::Lost)? {
+        match *self.list.get(between)? {
             Move::Copy {
                 from: source,
                 to: target,
-            } if *source != to || *target != from => Ok(Some(if *source == to {
-                Edit::With { from, to: *target }
+            } if source != to || target != from => Some(if source == to {
+                Edit::With { from, to: target }
             } else {
-                Edit::With { from: *source, to }
-            })),
-            _ => Ok(None),
+                Edit::With { from: source, to }
+            }),
+            _ => None,
         }
     }
 
-    fn drop_both(&mut self, other: usize, place: usize) -> Result<(), Stop> {
-        *self.edits.get_mut(other).ok_or(Stop::Lost)? = Edit::Go;
-        *self.edits.get_mut(place).ok_or(Stop::Lost)? = Edit::Go;
-        Ok(())
+    fn edit(&mut self, place: usize, edit: Edit) {
+        if place < self.edits.len() {
+            self.edits[place] = edit;
+        }
     }
 
     // A copy that stays, so far.
-    fn keep(&mut self, place: usize, from: u32, to: u32) -> Result<(), Stop> {
-        let copies = &mut at_mut(&mut self.lines, to)?.copies;
-        if copies.len() >= MOST_OPEN {
-            copies.clear();
+    fn keep(&mut self, place: usize, from: u32, to: u32) -> Result<(), Memory> {
+        self.note(place, from, to);
+        let Some(line) = self.lines.get_mut(to as usize) else {
+            return Ok(());
+        };
+        if line.copies.len() >= MOST_OPEN {
+            line.copies.clear();
         }
-        copies.push((from, place))?;
-        self.note(place, from, to)
+        Ok(line.copies.push((from, place))?)
     }
 
-    fn note(&mut self, place: usize, from: u32, to: u32) -> Result<(), Stop> {
-        self.read(place, from)?;
-        self.change(place, to)
+    fn note(&mut self, place: usize, from: u32, to: u32) {
+        self.read(place, from);
+        self.change(place, to);
     }
 
-    fn toggle(&mut self, place: usize, onto: u32, gatherings: &[Gatherings]) -> Result<(), Stop> {
-        for pair in gatherings {
-            self.read(place, pair.first.on)?;
-            self.read_all(place, &pair.first.others)?;
-            self.read(place, pair.second.on)?;
-            self.read_all(place, &pair.second.others)?;
+    fn toggle(&mut self, place: usize, onto: u32, gatherings: Option<&Vec<Gatherings>>) {
+        if let Some(pairs) = gatherings {
+            for pair in pairs {
+                self.read_gathered(place, &pair.first);
+                self.read_gathered(place, &pair.second);
+            }
         }
-        self.change(place, onto)
+        self.change(place, onto);
     }
 
-    fn read(&mut self, place: usize, line: u32) -> Result<(), Stop> {
-        at_mut(&mut self.lines, line)?.reads.note(place);
-        Ok(())
-    }
-
-    fn read_all(&mut self, place: usize, lines: &[u32]) -> Result<(), Stop> {
-        for line in lines {
-            self.read(place, *line)?;
+    fn read_gathered(&mut self, place: usize, gathering: &Gathering) {
+        self.read(place, gathering.on);
+        for line in &gathering.others {
+            self.read(place, *line);
         }
-        Ok(())
     }
 
-    fn change(&mut self, place: usize, line: u32) -> Result<(), Stop> {
-        at_mut(&mut self.lines, line)?.changes.note(place);
-        Ok(())
+    fn read(&mut self, place: usize, line: u32) {
+        if let Some(line) = self.lines.get_mut(line as usize) {
+            line.reads.note(place);
+        }
+    }
+
+    fn change(&mut self, place: usize, line: u32) {
+        if let Some(line) = self.lines.get_mut(line as usize) {
+            line.changes.note(place);
+        }
     }
 }

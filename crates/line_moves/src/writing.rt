@@ -1,6 +1,7 @@
 // Moves in the making.
 use crate::factors::{FactorLines, Habits, untangle};
-use crate::moves::{Gathering, Gatherings, Moves};
+use crate::moves::{Gatherings, Moves};
+use revc_base::Memory;
 use span_rows::Stop;
 use std::alloc::Global;
 
@@ -32,16 +33,13 @@ impl Writing {
         &mut self,
         node: u32,
         onto: u32,
-        products: Vec<FactorLines>,
+        mut products: Vec<FactorLines>,
         own: &[u32],
     ) -> Result<(), Stop> {
-        if products.len() != 1 {
-            return self.toggle_all(node, onto, products);
+        match products.first() {
+            Some(product) if products.len() == 1 => self.toggle_one(node, onto, product, own),
+            _ => self.toggle_all(node, onto, &mut products),
         }
-        for product in &products {
-            self.toggle_one(node, onto, product, own)?;
-        }
-        Ok(())
     }
 
     // A toggle of one product, whose factors are gathered by copies.
@@ -53,21 +51,8 @@ impl Writing {
         own: &[u32],
     ) -> Result<(), Stop> {
         let held = self.habits.held(self.alloc, product, own)?;
-        for (from, to) in &held.copies {
-            self.moves.copy(*from, *to)?;
-        }
-        let mut gatherings = Vec::new(self.alloc);
-        gatherings.push(Gatherings {
-            first: alone(self.alloc, held.first),
-            second: alone(self.alloc, held.second),
-        })?;
-        self.moves.toggle(node, onto, gatherings)?;
-        for (from, to) in held.copies.iter().rev() {
-            if !own.contains(to) {
-                self.moves.copy(*from, *to)?;
-            }
-        }
-        Ok(())
+        let gatherings = held.gatherings(self.alloc)?;
+        self.toggle_between(node, onto, gatherings, &held.copies, own)
     }
 
     // A toggle of any number of products: those that have lines of their own are gathered by
@@ -76,47 +61,64 @@ impl Writing {
         &mut self,
         node: u32,
         onto: u32,
-        mut products: Vec<FactorLines>,
+        products: &mut [FactorLines],
     ) -> Result<(), Stop> {
-        let mut copies = self.gather_apart(&mut products)?;
-        copies.append(&mut untangle(self.alloc, &mut products)?)?;
-        let mut gatherings = Vec::with_capacity(self.alloc, products.len())?;
-        for product in &products {
-            gatherings.push(self.habits.gatherings(self.alloc, product)?)?;
-        }
-        for (from, to) in &copies {
+        let mut copies = Vec::new(self.alloc);
+        self.gather_apart(products, &mut copies)?;
+        untangle(self.alloc, products, &mut copies)?;
+        let gatherings = self.gatherings(products)?;
+        self.toggle_between(node, onto, gatherings, &copies, &[])
+    }
+
+    // A toggle between copies and the same backward, of which those to the lines `own` stay.
+    fn toggle_between(
+        &mut self,
+        node: u32,
+        onto: u32,
+        gatherings: Vec<Gatherings>,
+        copies: &[(u32, u32)],
+        own: &[u32],
+    ) -> Result<(), Stop> {
+        for (from, to) in copies {
             self.moves.copy(*from, *to)?;
         }
         self.moves.toggle(node, onto, gatherings)?;
         for (from, to) in copies.iter().rev() {
-            self.moves.copy(*from, *to)?;
+            if !own.contains(to) {
+                self.moves.copy(*from, *to)?;
+            }
         }
         Ok(())
     }
 
+    fn gatherings(&mut self, products: &[FactorLines]) -> Result<Vec<Gatherings>, Memory> {
+        let mut gatherings = Vec::new(self.alloc);
+        for product in products {
+            gatherings.push(self.habits.gatherings(self.alloc, product)?)?;
+        }
+        Ok(gatherings)
+    }
+
     // Gathers each product by copies whose factors come onto lines that no other product has; the
     // products' lines become those behind the copies.
-    fn gather_apart(&mut self, products: &mut Vec<FactorLines>) -> Result<Vec<(u32, u32)>, Stop> {
-        let mut copies = Vec::new(self.alloc);
+    fn gather_apart(
+        &mut self,
+        products: &mut [FactorLines],
+        copies: &mut Vec<(u32, u32)>,
+    ) -> Result<(), Memory> {
         if products.len() > MOST_APART {
-            return Ok(copies);
+            return Ok(());
         }
         for k in 0..products.len() {
-            let product = products.get(k).ok_or(Stop::Lost)?;
+            let Some(product) = products.get(k) else {
+                break;
+            };
             let mut held = self.habits.held(self.alloc, product, &[])?;
             if held.is_apart(products, k) {
-                *products.get_mut(k).ok_or(Stop::Lost)? = held.lines(self.alloc)?;
+                products[k] = held.lines(self.alloc)?;
                 copies.append(&mut held.copies)?;
             }
         }
-        Ok(copies)
-    }
-}
-
-// A factor that is all that a line holds.
-fn alone(alloc: Global, on: u32) -> Gathering {
-    Gathering {
-        on,
-        others: Vec::new(alloc),
+        Ok(())
     }
 }
