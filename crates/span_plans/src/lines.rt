@@ -1,5 +1,6 @@
 // Which lines are free, and the lines of rows.
-use span_rows::{Stop, at};
+use revc_base::Memory;
+use span_rows::Stop;
 use std::alloc::Global;
 use std::collections::BTreeSet;
 
@@ -42,8 +43,8 @@ impl WorkLines {
     }
 
     /// The free lines, and the line behind those that were ever out: to be set again by `reset`.
-    pub fn saved(&self, alloc: Global) -> Result<SavedLines, Stop> {
-        let mut free = Vec::with_capacity(alloc, self.free.len())?;
+    pub fn saved(&self, alloc: Global) -> Result<SavedLines, Memory> {
+        let mut free = Vec::new(alloc);
         for line in &self.free {
             free.push(*line)?;
         }
@@ -79,37 +80,42 @@ pub struct SavedLines {
     behind: u32,
 }
 
+/// The line of a row that has none. No circuit has it, so moves that name it are refused.
+const NOWHERE: u32 = u32::MAX;
+
 /// The lines of rows.
 #[derive(Drop)]
 pub struct RowLines {
-    lines: Vec<Option<u32>>,
+    lines: Vec<u32>,
 }
 
 impl RowLines {
     /// So many rows, none of which has a line.
-    pub fn new(alloc: Global, rows: usize) -> Result<RowLines, Stop> {
-        let lines = vec![in alloc; None; rows]?;
+    pub fn new(alloc: Global, rows: usize) -> Result<RowLines, Memory> {
+        let lines = vec![in alloc; NOWHERE; rows]?;
         Ok(RowLines { lines })
     }
 
     /// Gives a row its line.
-    pub fn set(&mut self, row: u32, line: u32) -> Result<(), Stop> {
-        *span_rows::at_mut(&mut self.lines, row)? = Some(line);
-        Ok(())
+    pub fn set(&mut self, row: u32, line: u32) {
+        let place = row as usize;
+        if place < self.lines.len() {
+            self.lines[place] = line;
+        }
     }
 
     /// The line of a row.
-    pub fn line(&self, row: u32) -> Result<u32, Stop> {
-        at(&self.lines, row)?.ok_or(Stop::Lost)
+    pub fn line(&self, row: u32) -> u32 {
+        self.lines.get(row as usize).copied().unwrap_or(NOWHERE)
     }
 
     /// The lines of rows, rising.
-    pub fn all(&self, alloc: Global, rows: &[u32]) -> Result<Vec<u32>, Stop> {
-        let mut lines = Vec::with_capacity(alloc, rows.len())?;
+    pub fn all(&self, alloc: Global, rows: &[u32]) -> Result<Vec<u32>, Memory> {
+        let mut lines = Vec::new(alloc);
         for row in rows {
-            lines.push(self.line(*row)?)?;
+            lines.push(self.line(*row))?;
         }
-        lines.sort()?;
+        lines.sort_unstable();
         Ok(lines)
     }
 }

@@ -30,12 +30,22 @@ pub fn plan(alloc: Global, graph: &SumGraph, budget: &Budget) -> Result<Option<P
 fn steps(alloc: Global, graph: &SumGraph, budget: &Budget) -> Result<Vec<Step>, Stop> {
     let graph = SpanGraph::of(alloc, graph)?;
     let ports = graph.inputs.saturating_add(number(graph.outputs.len())?);
-    let taken = ports.saturating_add(budget.borrow());
-    let room = budget.lines().checked_sub(taken).ok_or(Stop::Lost)?;
-    let swept = best_sweep(alloc, &graph, taken, room)?;
-    let limit = ports.saturating_add(room);
-    let Replayed { moves, lines } = replay_of(alloc, &graph, &swept, limit)?;
+    let Replayed { moves, lines } = replayed(alloc, &graph, ports, budget)?;
     let moves = shortened(alloc, moves, lines)?;
-    let work = lines.saturating_sub(ports);
-    script(alloc, work, &moves, budget.gates())
+    script(alloc, lines.saturating_sub(ports), &moves, budget.gates())
+}
+
+// The moves of the best sweep, behind so many lines of inputs and outputs.
+fn replayed(
+    alloc: Global,
+    graph: &SpanGraph,
+    ports: u32,
+    budget: &Budget,
+) -> Result<Replayed, Stop> {
+    let taken = ports.saturating_add(budget.borrow());
+    let Some(room) = budget.lines().checked_sub(taken) else {
+        return Err(Stop::Lost);
+    };
+    let swept = best_sweep(alloc, graph, taken, room)?;
+    replay_of(alloc, graph, &swept, ports, ports.saturating_add(room))
 }

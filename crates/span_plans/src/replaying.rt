@@ -1,7 +1,8 @@
 // The moves of what was swept: forward, the copies to the outputs, and back.
 use crate::lines::{RowLines, SavedLines, WorkLines};
 use line_moves::{FactorLines, Moves, Writing};
-use span_rows::{Add, Row, Stop, number};
+use revc_base::Memory;
+use span_rows::{Add, Row, Stop};
 use span_sweeps::{End, Event, SpanGraph, Swept, Toggle};
 use std::alloc::Global;
 
@@ -42,15 +43,14 @@ struct Replay<'g> {
     block: Option<OpenBlock>,
 }
 
-/// The moves of what was swept, on at most so many lines.
+/// The moves of what was swept, on at most `limit` lines, of which the work lines begin at `first`.
 pub fn replay_of(
     alloc: Global,
     graph: &SpanGraph,
     swept: &Swept,
+    first: u32,
     limit: u32,
 ) -> Result<Replayed, Stop> {
-    let outputs = number(graph.outputs.len())?;
-    let first = graph.inputs.saturating_add(outputs);
     let mut replay = Replay {
         alloc,
         graph,
@@ -60,14 +60,7 @@ pub fn replay_of(
         once: Vec::new(alloc),
         block: None,
     };
-    replay.begin(swept)?;
-    for event in &swept.events {
-        replay.play(event)?;
-    }
-    let ways = replay.writing.moves.len();
-    replay.copy_ends(swept)?;
-    replay.play_back(ways)?;
-    replay.name_outputs()?;
+    replay.play_all(swept)?;
     let lines = replay.work.behind();
     let writing = replay.writing;
     Ok(Replayed {
@@ -81,12 +74,25 @@ impl Replay<'_> {
         self.graph.inputs.saturating_add(output)
     }
 
+    fn play_all(&mut self, swept: &Swept) -> Result<(), Stop> {
+        self.begin(swept)?;
+        for event in &swept.events {
+            self.play(event)?;
+        }
+        let ways = self.writing.moves.len();
+        self.copy_ends(swept)?;
+        self.play_back(ways)?;
+        self.name_outputs()
+    }
+
     // The rows of the beginning on the lines of inputs. Their heads fall, so each adds inputs that
     // are still alone.
     fn begin(&mut self, swept: &Swept) -> Result<(), Stop> {
         for (row, vector) in &swept.first {
-            let (head, others) = vector.split_first().ok_or(Stop::Lost)?;
-            self.rows.set(*row, *head)?;
+            let Some((head, others)) = vector.split_first() else {
+                return Err(Stop::Lost);
+            };
+            self.rows.set(*row, *head);
             self.writing.moves.copies(others, *head)?;
         }
         Ok(())
@@ -120,21 +126,20 @@ impl Replay<'_> {
                 Some(output) => self.output_line(output),
                 None => self.work.take()?,
             };
-            self.rows.set(row, line)?;
+            self.rows.set(row, line);
         }
-        let onto = self.rows.line(row)?;
+        let onto = self.rows.line(row);
         self.add(&toggle.before)?;
         let from = self.writing.moves.len();
         self.toggle(toggle, onto, rest.is_none())?;
         if let Some(rest) = rest {
-            let lines = self.rows.all(self.alloc, rest)?;
-            self.play_once(from, lines, onto)?;
+            self.play_once(from, rest, onto)?;
         }
         self.add(&toggle.after)
     }
 
     fn play_off(&mut self, toggle: &Toggle, row: Row) -> Result<(), Stop> {
-        let onto = self.rows.line(row)?;
+        let onto = self.rows.line(row);
         self.add(&toggle.before)?;
         self.toggle(toggle, onto, true)?;
         self.add(&toggle.after)?;
@@ -144,12 +149,13 @@ impl Replay<'_> {
     // A final node goes onto the lines of its outputs, once for all.
     fn play_final(&mut self, toggle: &Toggle) -> Result<(), Stop> {
         let from = self.writing.moves.len();
+        let node = self.graph.node(toggle.node)?;
         let mut lines = Vec::new(self.alloc);
-        for output in &self.graph.node(toggle.node)?.targets {
+        for output in &node.targets {
             lines.push(self.output_line(*output))?;
         }
         self.toggle_onto(toggle, &lines)?;
-        self.play_once(from, Vec::new(self.alloc), 0)?;
+        self.play_once(from, &[], 0)?;
         self.add(&toggle.after)
     }
 
@@ -157,7 +163,7 @@ impl Replay<'_> {
     fn play_part(&mut self, toggle: &Toggle, rows: &[Row]) -> Result<(), Stop> {
         let mut lines = Vec::new(self.alloc);
         for row in rows {
-            lines.push(self.rows.line(*row)?)?;
+            lines.push(self.rows.line(*row))?;
         }
         self.toggle_onto(toggle, &lines)?;
         self.add(&toggle.after)
@@ -167,7 +173,9 @@ impl Replay<'_> {
     // block.
     fn toggle_onto(&mut self, toggle: &Toggle, lines: &[u32]) -> Result<(), Stop> {
         let from = self.writing.moves.len();
-        let (onto, others) = lines.split_first().ok_or(Stop::Lost)?;
+        let Some((onto, others)) = lines.split_first() else {
+            return Err(Stop::Lost);
+        };
         self.copy_to_all(*onto, others)?;
         self.toggle(toggle, *onto, false)?;
         self.copy_to_all(*onto, others)?;
@@ -189,38 +197,49 @@ impl Replay<'_> {
     fn open(&mut self, rows: &[Row]) -> Result<(), Stop> {
         for row in rows {
             let line = self.work.take()?;
-            self.rows.set(*row, line)?;
+            self.rows.set(*row, line);
         }
+        let lines = self.work.saved(self.alloc)?;
         self.block = Some(OpenBlock {
             first: self.writing.moves.len(),
             stay: Vec::new(self.alloc),
-            lines: self.work.saved(self.alloc)?,
+            lines,
         });
         Ok(())
     }
 
     // A block ends: its rows take sums of rows, and its moves are undone but for those that stay.
     fn close(&mut self, ends: &[End], written: &[(Row, u32)]) -> Result<(), Stop> {
-        let OpenBlock { first, stay, lines } = self.block.take().ok_or(Stop::Lost)?;
-        let mut behind = self.writing.moves.len();
+        let behind = self.writing.moves.len();
         for end in ends {
-            let sources = self.rows.all(self.alloc, &end.rows)?;
-            self.writing
-                .moves
-                .copies(&sources, self.rows.line(end.onto)?)?;
+            let onto = self.rows.line(end.onto);
+            self.copy_sum(&end.rows, onto)?;
         }
-        for part in written {
-            let (row, place) = *part;
-            let line = self.rows.line(row)?;
-            self.name(place, line)?;
+        for (row, place) in written {
+            let line = self.rows.line(*row);
+            self.name(*place, line)?;
         }
-        for range in stay.iter().rev() {
-            let (from, to) = *range;
-            self.undo(to, behind)?;
-            behind = from;
+        match self.block.take() {
+            Some(block) => self.undo_block(&block, behind),
+            None => Err(Stop::Lost),
         }
-        self.undo(first, behind)?;
-        self.work.reset(&lines)
+    }
+
+    // The moves of a block, which end before `behind`, but for those that stay.
+    fn undo_block(&mut self, block: &OpenBlock, behind: usize) -> Result<(), Stop> {
+        let mut behind = behind;
+        for (from, to) in block.stay.iter().rev() {
+            self.undo(*to, behind)?;
+            behind = *from;
+        }
+        self.undo(block.first, behind)?;
+        self.work.reset(&block.lines)
+    }
+
+    // The lines of rows onto one.
+    fn copy_sum(&mut self, rows: &[Row], onto: u32) -> Result<(), Stop> {
+        let lines = self.rows.all(self.alloc, rows)?;
+        self.writing.moves.copies(&lines, onto)
     }
 
     // Moves of a range once more, from the last to the first.
@@ -231,21 +250,24 @@ impl Replay<'_> {
         Ok(())
     }
 
-    // On the way back, these lines are added to `onto` in the place of all moves since `from`.
-    fn play_once(&mut self, from: usize, lines: Vec<u32>, onto: u32) -> Result<(), Stop> {
-        self.once.push(Once {
-            from,
-            to: self.writing.moves.len(),
-            lines,
-            onto,
-        })?;
-        Ok(())
+    // On the way back, the lines of these rows are added to `onto` in the place of all moves since
+    // `from`.
+    fn play_once(&mut self, from: usize, rows: &[Row], onto: u32) -> Result<(), Memory> {
+        let lines = self.rows.all(self.alloc, rows)?;
+        Ok(
+            self.once.push(Once {
+                from,
+                to: self.writing.moves.len(),
+                lines,
+                onto,
+            })?,
+        )
     }
 
     fn add(&mut self, adds: &[Add]) -> Result<(), Stop> {
         for add in adds {
-            let from = self.rows.line(add.from)?;
-            self.writing.moves.copy(from, self.rows.line(add.to)?)?;
+            let (from, to) = (self.rows.line(add.from), self.rows.line(add.to));
+            self.writing.moves.copy(from, to)?;
         }
         Ok(())
     }
@@ -254,36 +276,33 @@ impl Replay<'_> {
     // (`leaves`).
     fn toggle(&mut self, toggle: &Toggle, onto: u32, leaves: bool) -> Result<(), Stop> {
         let name = self.graph.node(toggle.node)?.name;
+        let own = self.own_lines(toggle, leaves)?;
         let products = self.factor_lines(toggle)?;
-        let own = if leaves && products.len() == 1 {
-            self.own_lines(toggle)?
-        } else {
-            Vec::new(self.alloc)
-        };
         self.writing.toggle(name, onto, products, &own)
     }
 
-    // The lines of the rows that are new behind a toggle, and in no addition.
-    fn own_lines(&self, toggle: &Toggle) -> Result<Vec<u32>, Stop> {
+    // The lines of the rows that are new behind a toggle of one product, and in no addition; none
+    // where they may not keep anything.
+    fn own_lines(&self, toggle: &Toggle, leaves: bool) -> Result<Vec<u32>, Memory> {
         let mut lines = Vec::new(self.alloc);
+        if !leaves || toggle.factors.len() != 1 {
+            return Ok(lines);
+        }
         for row in &toggle.new {
-            if !toggle
-                .after
-                .iter()
-                .any(|add| add.from == *row || add.to == *row)
-            {
-                lines.push(self.rows.line(*row)?)?;
+            if !is_added(&toggle.after, *row) {
+                lines.push(self.rows.line(*row))?;
             }
         }
         Ok(lines)
     }
 
-    fn factor_lines(&self, toggle: &Toggle) -> Result<Vec<FactorLines>, Stop> {
-        let mut products = Vec::with_capacity(self.alloc, toggle.factors.len())?;
+    fn factor_lines(&self, toggle: &Toggle) -> Result<Vec<FactorLines>, Memory> {
+        let mut products = Vec::new(self.alloc);
         for factors in &toggle.factors {
-            let first = self.rows.all(self.alloc, &factors.first)?;
-            let second = self.rows.all(self.alloc, &factors.second)?;
-            products.push(FactorLines { first, second })?;
+            products.push(FactorLines {
+                first: self.rows.all(self.alloc, &factors.first)?,
+                second: self.rows.all(self.alloc, &factors.second)?,
+            })?;
         }
         Ok(products)
     }
@@ -291,9 +310,8 @@ impl Replay<'_> {
     // What the outputs without homes are the sums of.
     fn copy_ends(&mut self, swept: &Swept) -> Result<(), Stop> {
         for end in &swept.ends {
-            let lines = self.rows.all(self.alloc, &end.rows)?;
             let onto = self.output_line(end.onto);
-            self.writing.moves.copies(&lines, onto)?;
+            self.copy_sum(&end.rows, onto)?;
         }
         Ok(())
     }
@@ -319,15 +337,26 @@ impl Replay<'_> {
     // Each output's line holds the bits of its sum, with nodes written out: these are written in
     // again, and the sum gets its name. That takes no gates.
     fn name_outputs(&mut self) -> Result<(), Stop> {
-        for (k, output) in self.graph.outputs.iter().enumerate() {
-            let onto = self.output_line(number(k)?);
+        let mut onto = self.graph.inputs;
+        for output in &self.graph.outputs {
             for place in &output.written {
                 self.name(*place, onto)?;
             }
             if let Some(name) = output.name {
                 self.writing.moves.toggle(name, onto, Vec::new(self.alloc))?;
             }
+            onto = onto.saturating_add(1);
         }
         Ok(())
     }
+}
+
+// Whether a row is in one of these additions.
+fn is_added(adds: &[Add], row: Row) -> bool {
+    for add in adds {
+        if add.from == row || add.to == row {
+            return true;
+        }
+    }
+    false
 }

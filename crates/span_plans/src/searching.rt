@@ -1,5 +1,6 @@
 // Which schedule is swept for the best plan.
-use span_rows::{Stop, at, number};
+use revc_base::Memory;
+use span_rows::Stop;
 use span_sweeps::{Event, Range, SpanGraph, Swept, chains, minima, schedule, sweep};
 use std::alloc::Global;
 
@@ -20,17 +21,17 @@ const MOST_ADDITIONS: usize = 4;
 const MOST_HALVINGS: u32 = 64;
 
 /// The blocks that are tried where no cleaning is enough: how many twentieths of the segments each
-/// has.
-const SHAPES: [&[usize]; 9] = [
-    &[4],
-    &[6],
-    &[8],
-    &[10],
-    &[6, 6],
-    &[8, 6],
-    &[10, 6],
-    &[8, 6, 4],
-    &[10, 5, 3],
+/// has, 0 where there is none.
+const SHAPES: [[usize; 3]; 9] = [
+    [4, 0, 0],
+    [6, 0, 0],
+    [8, 0, 0],
+    [10, 0, 0],
+    [6, 6, 0],
+    [8, 6, 0],
+    [10, 6, 0],
+    [8, 6, 4],
+    [10, 5, 3],
 ];
 
 /// How many rules are tried with blocks.
@@ -39,80 +40,117 @@ const MOST_BLOCKED: usize = 2;
 /// How a plan is measured: by Toffoli gates, then by lines times gates, then by lines.
 type Cost = (u64, u64, u32);
 
-// Where segments begin, and what earlier sweeps told of the nodes without products.
+// Where segments begin, and what earlier sweeps told.
 #[derive(Drop)]
 struct Rule {
     starts: Vec<u32>,
-    /// Of each node, whether it took a line of its own.
+    /// Of each node, whether it took a line of its own, having no products.
     copies: Vec<bool>,
     /// Of each node, whether its rows are to have no other symbol.
     forced: Vec<bool>,
+    /// The ranks of the last sweep.
+    ranks: Vec<u32>,
+    /// The work lines without cleaning.
+    work: u32,
+    /// The work lines with all segments cleaned.
+    least: u32,
 }
 
 impl Rule {
-    // Nothing is known yet.
-    fn new(alloc: Global, starts: Vec<u32>, nodes: usize) -> Result<Rule, Stop> {
+    // All nodes in one segment, of which nothing is known yet.
+    fn whole(alloc: Global, nodes: usize) -> Result<Rule, Memory> {
         Ok(Rule {
-            starts,
+            starts: Vec::from_slice(alloc, &[0])?,
             copies: vec![in alloc; false; nodes]?,
             forced: vec![in alloc; false; nodes]?,
+            ranks: Vec::new(alloc),
+            work: 0,
+            least: 0,
         })
     }
 
     // What is known, for other segments.
-    fn with_starts(&self, alloc: Global, starts: &[u32]) -> Result<Rule, Stop> {
+    fn with_starts(&self, alloc: Global, starts: &[u32]) -> Result<Rule, Memory> {
         Ok(Rule {
             starts: Vec::from_slice(alloc, starts)?,
             copies: Vec::from_slice(alloc, &self.copies)?,
             forced: Vec::from_slice(alloc, &self.forced)?,
+            ranks: Vec::new(alloc),
+            work: 0,
+            least: 0,
         })
+    }
+
+    // A rule for each of these segments.
+    fn with_each(&self, alloc: Global, segments: &[Vec<u32>]) -> Result<Vec<Rule>, Memory> {
+        let mut rules = Vec::new(alloc);
+        for starts in segments {
+            rules.push(self.with_starts(alloc, starts)?)?;
+        }
+        Ok(rules)
     }
 
     // Learns from a sweep which nodes without products took a line of their own, or more than
     // `most` additions; whether another sweep would go otherwise.
-    fn learn(&mut self, graph: &SpanGraph, events: &[Event], most: usize) -> Result<bool, Stop> {
+    fn learn(&mut self, graph: &SpanGraph, events: &[Event], most: usize) -> bool {
         let mut is_new = false;
         for event in events {
-            is_new |= self.learn_event(graph, event, most)?;
+            is_new |= self.learn_event(graph, event, most);
         }
-        Ok(is_new)
+        is_new
     }
 
-    fn learn_event(&mut self, graph: &SpanGraph, event: &Event, most: usize) -> Result<bool, Stop> {
+    fn learn_event(&mut self, graph: &SpanGraph, event: &Event, most: usize) -> bool {
         let Event::On {
             toggle,
             is_fresh,
             ..
         } = event
         else {
-            return Ok(false);
+            return false;
         };
-        let is_linear = graph.node(toggle.node)?.is_linear();
-        let copy = span_rows::at_mut(&mut self.copies, toggle.node)?;
-        if !is_linear || *copy {
-            return Ok(false);
+        if !is_linear(graph, toggle.node) || is_marked(&self.copies, toggle.node) {
+            return false;
         }
         if *is_fresh {
-            *copy = true;
-            return Ok(self.starts.len() > 1);
+            mark(&mut self.copies, toggle.node);
+            return self.starts.len() > 1;
         }
         if toggle.before.len() <= most {
-            return Ok(false);
+            return false;
         }
-        *copy = true;
-        *span_rows::at_mut(&mut self.forced, toggle.node)? = true;
-        Ok(true)
+        mark(&mut self.copies, toggle.node);
+        mark(&mut self.forced, toggle.node);
+        true
     }
 }
 
-// What the last sweep of a rule tells.
-#[derive(Drop)]
+fn is_linear(graph: &SpanGraph, node: u32) -> bool {
+    match graph.nodes.get(node as usize) {
+        Some(node) => node.is_linear(),
+        None => false,
+    }
+}
+
+fn is_marked(marks: &[bool], node: u32) -> bool {
+    let place = node as usize;
+    place < marks.len() && marks[place]
+}
+
+fn mark(marks: &mut [bool], node: u32) {
+    let place = node as usize;
+    if place < marks.len() {
+        marks[place] = true;
+    }
+}
+
+// What a sweep of a rule tells.
+#[derive(Clone, Copy)]
 struct Outcome {
-    /// Whether one of its sweeps fits.
+    /// Whether it fits, or an earlier one did.
     fits: bool,
     work: u32,
     toffoli: u64,
-    ranks: Vec<u32>,
 }
 
 // The best sweep so far.
@@ -139,35 +177,37 @@ pub fn best_sweep(alloc: Global, graph: &SpanGraph, ports: u32, room: u32) -> Re
         best: None,
         spent: 0,
     };
-    match search.try_all() {
-        // The work is spent, and what was found until then counts.
-        Ok(()) | Err(Stop::Lost) => {}
-        Err(Stop::Memory) => return Err(Stop::Memory),
+    // Where the work is spent, what was found until then counts.
+    if let Err(Stop::Memory) = search.try_all() {
+        return Err(Stop::Memory);
     }
-    let (_, swept) = search.best.ok_or(Stop::Lost)?;
-    Ok(swept)
+    match search.best {
+        Some((_, swept)) => Ok(swept),
+        None => Err(Stop::Lost),
+    }
 }
 
 impl Search<'_> {
     fn try_all(&mut self) -> Result<(), Stop> {
-        let (alloc, nodes) = (self.alloc, self.graph.nodes.len());
-        let mut segments = Vec::new(alloc);
+        let mut segments = Vec::new(self.alloc);
         for most in [usize::MAX, MOST_ADDITIONS] {
-            let whole = Vec::from_slice(alloc, &[0])?;
-            let mut rule = Rule::new(alloc, whole, nodes)?;
-            let outcome = self.settle(&mut rule, most, 0, true)?;
-            if segments.is_empty() {
-                segments = self.segments(&outcome.ranks)?;
-            }
-            let mut rules = Vec::with_capacity(alloc, segments.len())?;
-            for starts in &segments {
-                rules.push(rule.with_starts(alloc, starts)?)?;
-            }
-            if !self.try_rules(&mut rules, most, &outcome.ranks)? {
-                break;
+            if !self.try_most(&mut segments, most)? {
+                return Ok(());
             }
         }
         Ok(())
+    }
+
+    // All nodes in one segment, and then the rules for segments, which are found by that if there
+    // are none yet; whether something fits without cleaning.
+    fn try_most(&mut self, segments: &mut Vec<Vec<u32>>, most: usize) -> Result<bool, Stop> {
+        let mut whole = Rule::whole(self.alloc, self.graph.nodes.len())?;
+        self.settle(&mut whole, most, 0, true)?;
+        if segments.is_empty() {
+            self.find_segments(segments, &whole.ranks)?;
+        }
+        let mut rules = whole.with_each(self.alloc, segments)?;
+        self.try_rules(&mut rules, most, &whole.ranks)
     }
 
     // Each rule without cleaning, and, if none of them fits, with some, or with blocks; whether
@@ -178,21 +218,19 @@ impl Search<'_> {
         most: usize,
         ranks: &[u32],
     ) -> Result<bool, Stop> {
-        let mut lines = Vec::with_capacity(self.alloc, rules.len())?;
         for rule in rules.iter_mut() {
-            lines.push(self.settle(rule, most, 0, true)?.work)?;
+            rule.work = self.settle(rule, most, 0, true)?.work;
         }
         if self.best.is_some() {
             return Ok(true);
         }
-        let mut least = Vec::with_capacity(self.alloc, rules.len())?;
-        for (k, (rule, work)) in rules.iter_mut().zip(&lines).enumerate() {
-            least.push((self.clean(rule, most, *work)?, number(k)?))?;
+        for rule in rules.iter_mut() {
+            rule.least = self.clean(rule, most)?;
         }
         if self.best.is_none() {
-            least.sort()?;
-            for (_, k) in least.iter().take(MOST_BLOCKED) {
-                self.try_blocks(span_rows::at_mut(rules, *k)?, most, ranks)?;
+            rules.sort_by_key(|rule| rule.least)?;
+            for rule in rules.iter_mut().take(MOST_BLOCKED) {
+                self.try_blocks(rule, most, ranks)?;
             }
         }
         Ok(false)
@@ -200,50 +238,48 @@ impl Search<'_> {
 
     // A rule with all segments cleaned, and the first ones in blocks.
     fn try_blocks(&mut self, rule: &mut Rule, most: usize, ranks: &[u32]) -> Result<(), Stop> {
+        let all = rule.starts.len();
         for shape in SHAPES {
-            let blocks = blocks_of(self.alloc, &rule.starts, shape, ranks)?;
-            let is_free = match blocks.last() {
-                Some(last) => self.has_no_homes(last.to)?,
-                None => false,
-            };
-            if is_free {
-                let swept = self.sweep(rule, rule.starts.len(), &blocks)?;
-                let _ = rule.learn(self.graph, &swept.events, most)?;
-                let _ = self.judge(swept)?;
+            let blocks = blocks_of(self.alloc, &rule.starts, &shape, ranks)?;
+            if self.may_have(&blocks) {
+                self.try_sweep(rule, most, all, &blocks)?;
             }
         }
         Ok(())
     }
 
-    // Whether no node below a place stays on the line of an output.
-    fn has_no_homes(&self, behind: u32) -> Result<bool, Stop> {
-        for place in 0..behind {
-            if self.graph.node(place)?.home.is_some() {
-                return Ok(false);
+    // Whether there are blocks, and no node of them stays on the line of an output.
+    fn may_have(&self, blocks: &[Range]) -> bool {
+        let Some(last) = blocks.last() else {
+            return false;
+        };
+        for node in self.graph.nodes.iter().take(last.to as usize) {
+            if node.home.is_some() {
+                return false;
             }
         }
-        Ok(true)
+        true
     }
 
-    // The rules for segments: by chains, and by minima of the ranks that are deeper and deeper.
-    fn segments(&self, ranks: &[u32]) -> Result<Vec<Vec<u32>>, Stop> {
-        let mut segments = Vec::new(self.alloc);
-        push_new(&mut segments, chains(self.alloc, self.graph)?)?;
+    // Appends the rules for segments: by chains, and by minima of the ranks that are deeper and
+    // deeper.
+    fn find_segments(&self, segments: &mut Vec<Vec<u32>>, ranks: &[u32]) -> Result<(), Stop> {
+        push_new(segments, chains(self.alloc, self.graph)?)?;
         let mut depth: u32 = 1;
         for _ in 0..32 {
             let starts = minima(self.alloc, ranks, depth)?;
             if starts.len() <= 1 {
-                break;
+                return Ok(());
             }
-            push_new(&mut segments, starts)?;
+            push_new(segments, starts)?;
             depth = depth.saturating_mul(2);
         }
-        Ok(segments)
+        Ok(())
     }
 
     // Looks for the least number of segments that have to be cleaned, where all of them are enough;
     // the lines of the sweep that cleans all.
-    fn clean(&mut self, rule: &mut Rule, most: usize, work: u32) -> Result<u32, Stop> {
+    fn clean(&mut self, rule: &mut Rule, most: usize) -> Result<u32, Stop> {
         let all = rule.starts.len();
         let outcome = self.settle(rule, most, all, true)?;
         let least = outcome.work;
@@ -253,7 +289,7 @@ impl Search<'_> {
         let mut bounds = Bounds {
             no: 0,
             yes: all,
-            over: work.saturating_sub(self.room),
+            over: rule.work.saturating_sub(self.room),
             under: self.room.saturating_sub(outcome.work),
         };
         for turn in 0..MOST_HALVINGS {
@@ -292,20 +328,33 @@ impl Search<'_> {
         cleaned: usize,
         again: bool,
     ) -> Result<Outcome, Stop> {
-        let swept = self.sweep(rule, cleaned, &[])?;
-        let is_new = rule.learn(self.graph, &swept.events, most)?;
-        let first = self.judge(swept)?;
+        let (first, is_new) = self.try_sweep(rule, most, cleaned, &[])?;
         if !(is_new && again) {
             return Ok(first);
         }
-        let swept = self.sweep(rule, cleaned, &[])?;
-        let _ = rule.learn(self.graph, &swept.events, most)?;
-        let mut second = self.judge(swept)?;
+        let (mut second, _) = self.try_sweep(rule, most, cleaned, &[])?;
         second.fits |= first.fits;
         Ok(second)
     }
 
+    // A sweep, from which the rule learns; and whether another one would go otherwise.
+    fn try_sweep(
+        &mut self,
+        rule: &mut Rule,
+        most: usize,
+        cleaned: usize,
+        blocks: &[Range],
+    ) -> Result<(Outcome, bool), Stop> {
+        let mut swept = self.sweep(rule, cleaned, blocks)?;
+        let is_new = rule.learn(self.graph, &swept.events, most);
+        rule.ranks = std::mem::replace(&mut swept.ranks, Vec::new(self.alloc));
+        Ok((self.judge(swept), is_new))
+    }
+
     fn sweep(&mut self, rule: &Rule, cleaned: usize, blocks: &[Range]) -> Result<Swept, Stop> {
+        let Some(left) = MOST_WORK.checked_sub(self.spent) else {
+            return Err(Stop::Lost);
+        };
         let turns = schedule(
             self.alloc,
             self.graph,
@@ -314,7 +363,6 @@ impl Search<'_> {
             &rule.copies,
             blocks,
         )?;
-        let left = MOST_WORK.checked_sub(self.spent).ok_or(Stop::Lost)?;
         let most = left.min(MOST_SWEPT);
         let swept = sweep(self.alloc, self.graph, &turns, &rule.forced, most)?;
         let passing = (turns.len() as u64).saturating_mul(TURN);
@@ -324,9 +372,8 @@ impl Search<'_> {
     }
 
     // Keeps a sweep that fits and is better than the best so far.
-    fn judge(&mut self, mut swept: Swept) -> Result<Outcome, Stop> {
+    fn judge(&mut self, swept: Swept) -> Outcome {
         let measures = swept.measures;
-        let ranks = std::mem::replace(&mut swept.ranks, Vec::new(self.alloc));
         let lines = self.ports.saturating_add(measures.work);
         let gates = measures.toffoli.saturating_add(measures.cx);
         let cost = (
@@ -342,17 +389,16 @@ impl Search<'_> {
         if fits && is_better {
             self.best = Some((cost, swept));
         }
-        Ok(Outcome {
+        Outcome {
             fits,
             work: measures.work,
             toffoli: measures.toffoli,
-            ranks,
-        })
+        }
     }
 }
 
 // Appends a rule of several segments, where it is not the last one again.
-fn push_new(segments: &mut Vec<Vec<u32>>, starts: Vec<u32>) -> Result<(), Stop> {
+fn push_new(segments: &mut Vec<Vec<u32>>, starts: Vec<u32>) -> Result<(), Memory> {
     if starts.len() > 1 && segments.last() != Some(&starts) {
         segments.push(starts)?;
     }
@@ -366,32 +412,29 @@ fn blocks_of(
     starts: &[u32],
     shape: &[usize],
     ranks: &[u32],
-) -> Result<Vec<Range>, Stop> {
+) -> Result<Vec<Range>, Memory> {
     let mut blocks = Vec::new(alloc);
     let (mut from, mut share): (usize, usize) = (0, 0);
     for twentieths in shape {
+        if *twentieths == 0 {
+            return Ok(blocks);
+        }
         share = share.saturating_add(*twentieths);
         let middle = starts.len().saturating_mul(share) / 20;
-        let Some(to) = least_within(starts, ranks, from, middle)? else {
+        let Some(to) = least_within(starts, ranks, from, middle) else {
             return Ok(Vec::new(alloc));
         };
-        let range = Range {
-            from: *starts.get(from).ok_or(Stop::Lost)?,
-            to: *starts.get(to).ok_or(Stop::Lost)?,
-        };
-        blocks.push(range)?;
+        blocks.push(Range {
+            from: number_at(starts, from),
+            to: number_at(starts, to),
+        })?;
         from = to;
     }
     Ok(blocks)
 }
 
 // The segment behind `from` with the least rank within a twentieth around `middle`.
-fn least_within(
-    starts: &[u32],
-    ranks: &[u32],
-    from: usize,
-    middle: usize,
-) -> Result<Option<usize>, Stop> {
+fn least_within(starts: &[u32], ranks: &[u32], from: usize, middle: usize) -> Option<usize> {
     let near = starts.len() / 20;
     let first = middle.saturating_sub(near).max(from.saturating_add(1));
     let behind = middle
@@ -400,13 +443,20 @@ fn least_within(
         .min(starts.len());
     let mut best: Option<(u32, usize, usize)> = None;
     for segment in first..behind {
-        let start = *starts.get(segment).ok_or(Stop::Lost)?;
-        let key = (*at(ranks, start)?, segment.abs_diff(middle), segment);
-        if best.is_none_or(|least| key < least) {
-            best = Some(key);
-        }
+        let rank = number_at(ranks, number_at(starts, segment) as usize);
+        let key = (rank, segment.abs_diff(middle), segment);
+        best = match best {
+            Some(least) if least <= key => best,
+            _ => Some(key),
+        };
     }
-    Ok(best.map(|least| least.2))
+    let (_, _, segment) = best?;
+    Some(segment)
+}
+
+// The number at a place, 0 where there is none.
+fn number_at(numbers: &[u32], place: usize) -> u32 {
+    numbers.get(place).copied().unwrap_or(0)
 }
 
 // Numbers of cleaned segments that are too few (`no`) and enough (`yes`), and by how many lines the
@@ -421,7 +471,7 @@ struct Bounds {
 
 impl Bounds {
     // A number between the two, by the rule of three or the half of both; none where there is none.
-    fn middle(self, by_lines: bool) -> Option<usize> {
+    fn middle(&self, by_lines: bool) -> Option<usize> {
         let width = self.yes.saturating_sub(self.no);
         if width < 2 {
             return None;
