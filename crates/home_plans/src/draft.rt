@@ -13,14 +13,9 @@ pub struct Move {
     pub line: u32,
 }
 
-/// What a plan comes to. The better of two plans is the one that comes to less.
-#[derive(Clone, Copy, PartialEq, Eq, PartialOrd, Ord)]
-pub struct Size {
-    pub toffoli: u64,
-    /// Lines times gates.
-    pub area: u64,
-    pub lines: u32,
-}
+/// What a plan comes to: its Toffoli gates, its lines times its gates, and its lines. The better of
+/// two plans is the one that comes to less.
+pub type Size = (u64, u64, u32);
 
 // The most looks at nodes that are taken for a draft.
 const MOST_LOOKS: u64 = 5_000_000;
@@ -68,6 +63,11 @@ impl<'t> Draft<'t> {
         self.work
     }
 
+    /// How many lines the plan has, without borrowed ones.
+    pub fn lines(&self) -> u32 {
+        self.table.ports().saturating_add(self.work)
+    }
+
     /// The toggles, in order.
     pub fn moves(&self) -> &[Move] {
         &self.moves
@@ -75,12 +75,9 @@ impl<'t> Draft<'t> {
 
     /// What the plan comes to.
     pub fn size(&self) -> Size {
-        let lines = self.table.ports().saturating_add(self.work);
-        Size {
-            toffoli: self.weight.toffoli,
-            area: self.weight.gates.saturating_mul(u64::from(lines)),
-            lines,
-        }
+        let lines = self.lines();
+        let area = self.weight.gates.saturating_mul(u64::from(lines));
+        (self.weight.toffoli, area, lines)
     }
 
     /// Whether no work line is free.
@@ -96,18 +93,27 @@ impl<'t> Draft<'t> {
         self.lines.get(node as usize).copied().flatten()
     }
 
-    /// Whether a node may be cleared: all its operands are held.
-    pub fn is_ready(&mut self, node: u32) -> Result<bool, PlanFault> {
+    /// Clears a node, where all its operands are held; whether they are.
+    pub fn clear_ready(&mut self, node: u32) -> Result<bool, PlanFault> {
         let table = self.table;
         let Some(row) = table.rows.get(node as usize) else {
             return Ok(false);
         };
         self.look(row.operands.len() as u64)?;
-        Ok(self.are_held(&row.operands))
+        if !self.are_held(&row.operands) {
+            return Ok(false);
+        }
+        self.clear(node)?;
+        Ok(true)
     }
 
     fn are_held(&self, nodes: &[u32]) -> bool {
-        nodes.iter().all(|node| self.is_held(*node))
+        for node in nodes {
+            if !self.is_held(*node) {
+                return false;
+            }
+        }
+        true
     }
 
     /// So many looks at nodes more; refused where these are too many.

@@ -18,13 +18,21 @@ pub struct Homes {
 impl Homes {
     /// The homes of a graph, in time near linear in the terms of its outputs.
     pub fn find(alloc: Global, graph: &SumGraph) -> Result<Homes, Memory> {
-        let mut of_nodes = vec![in alloc; None; graph.nodes() as usize]?;
-        let mut guests = Vec::new(alloc);
-        for (output, sum) in graph.outputs().iter().enumerate() {
-            let guest = guest_of(alloc, sum)?;
-            guests.push(settled(&mut of_nodes, guest, output))?;
+        let mut homes = Homes {
+            of_nodes: vec![in alloc; None; graph.nodes() as usize]?,
+            guests: Vec::new(alloc),
+        };
+        for sum in graph.outputs() {
+            homes.settle(guest_of(alloc, sum)?)?;
         }
-        Ok(Homes { of_nodes, guests })
+        Ok(homes)
+    }
+
+    // Settles a node, or none, on the line of the next output.
+    fn settle(&mut self, guest: Option<u32>) -> Result<(), Memory> {
+        let output = self.guests.len();
+        let node = settled(&mut self.of_nodes, guest, output);
+        Ok(self.guests.push(node)?)
     }
 
     /// The node that stands on an output's line.
@@ -84,12 +92,11 @@ pub fn nodes_of(alloc: Global, sum: &Sum) -> Result<Vec<u32>, Memory> {
 
 /// Appends the nodes of which a sum is made; one may stand twice.
 pub fn push_nodes(nodes: &mut Vec<u32>, sum: &Sum) -> Result<(), Memory> {
-    push_among(nodes, sum.bits())?;
     for product in sum.products() {
         push_among(nodes, product.first())?;
         push_among(nodes, product.second())?;
     }
-    Ok(())
+    push_among(nodes, sum.bits())
 }
 
 // Appends the nodes among some bases.

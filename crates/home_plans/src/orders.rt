@@ -1,18 +1,50 @@
 // In which order nodes are held and cleared, one after another.
-use crate::draft::{Draft, Drafted};
+use crate::draft::Draft;
+use crate::pebbling::pebbled;
 use crate::table::Table;
-use circuit_plans::{Budget, PlanFault};
+use circuit_plans::PlanFault;
+use revc_base::Memory;
 use std::alloc::Global;
 
-/// Each node in turn; behind it those whose last use it is, the later one first, where their operands
-/// are held.
-pub fn ready<'t>(alloc: Global, table: &'t Table, budget: &Budget) -> Drafted<'t> {
-    let mut draft = Draft::new(alloc, table, budget)?;
+/// In which order nodes are held and cleared, one after another.
+#[derive(Clone, Copy)]
+pub enum Order {
+    /// Each node in turn; behind it those whose last use it is, the later one first, where their
+    /// operands are held.
+    Ready,
+    /// Segments of so many nodes; behind each but the last, those of its nodes whose last use is in
+    /// it are cleared, the later one first.
+    Segments { length: u32 },
+    /// Each node in turn; where no line is free, up to `most` nodes that are not needed any more
+    /// are cleared before, the latest first, where their operands are held.
+    Lazy { most: u32 },
+    /// By halves, down to `depth` halvings.
+    Pebbled { depth: u32 },
+}
+
+impl Order {
+    /// Holds and clears nodes in a draft that holds nothing yet.
+    pub fn fill(
+        self,
+        alloc: Global,
+        draft: &mut Draft<'_>,
+        table: &Table,
+    ) -> Result<(), PlanFault> {
+        match self {
+            Order::Ready => ready(draft, table),
+            Order::Segments { length } => segments(draft, table, length),
+            Order::Lazy { most } => lazy(alloc, draft, table, most),
+            Order::Pebbled { depth } => pebbled(alloc, draft, table, depth),
+        }
+    }
+}
+
+fn ready(draft: &mut Draft<'_>, table: &Table) -> Result<(), PlanFault> {
     for node in 0..table.nodes {
         draft.hold(node)?;
-        clear_used(&mut draft, table, node)?;
+        clear_used(draft, table, node)?;
     }
-    Ok(draft)
+    Ok(())
 }
 
 fn clear_used(draft: &mut Draft<'_>, table: &Table, user: u32) -> Result<(), PlanFault> {
@@ -20,27 +52,24 @@ fn clear_used(draft: &mut Draft<'_>, table: &Table, user: u32) -> Result<(), Pla
         return Ok(());
     };
     for operand in row.operands.iter().rev() {
-        if table.last_use(*operand) == user && draft.is_ready(*operand)? {
-            draft.clear(*operand)?;
+        if table.last_use(*operand) == user {
+            draft.clear_ready(*operand)?;
         }
     }
     Ok(())
 }
 
-/// Segments of so many nodes; behind each but the last, those of its nodes whose last use is in it
-/// are cleared, the later one first.
-pub fn segments<'t>(alloc: Global, table: &'t Table, budget: &Budget, length: u32) -> Drafted<'t> {
-    let mut draft = Draft::new(alloc, table, budget)?;
+fn segments(draft: &mut Draft<'_>, table: &Table, length: u32) -> Result<(), PlanFault> {
     let mut start = 0;
     for node in 0..table.nodes {
         draft.hold(node)?;
         let end = node + 1;
         if end.saturating_sub(start) >= length && end < table.nodes {
-            clear_segment(&mut draft, table, start, end)?;
+            clear_segment(draft, table, start, end)?;
             start = end;
         }
     }
-    Ok(draft)
+    Ok(())
 }
 
 fn clear_segment(
@@ -57,22 +86,32 @@ fn clear_segment(
     Ok(())
 }
 
-/// Each node in turn; where no line is free, up to `most` nodes that are not needed any more are
-/// cleared before, the latest first, where their operands are held.
-pub fn lazy<'t>(alloc: Global, table: &'t Table, budget: &Budget, most: u32) -> Drafted<'t> {
-    let mut draft = Draft::new(alloc, table, budget)?;
+fn lazy(alloc: Global, draft: &mut Draft<'_>, table: &Table, most: u32) -> Result<(), PlanFault> {
     let mut held = Vec::new(alloc);
     for node in 0..table.nodes {
         if table.home(node).is_none() {
-            if draft.is_full() {
-                clear_unneeded(&mut draft, table, &held, node, most)?;
-                held = still_held(alloc, &draft, &held)?;
-            }
+            make_room(alloc, draft, table, &mut held, node, most)?;
             held.push(node)?;
         }
         draft.hold(node)?;
     }
-    Ok(draft)
+    Ok(())
+}
+
+// Where no line is free, clears up to `most` of the held nodes that are not needed from a node on.
+fn make_room(
+    alloc: Global,
+    draft: &mut Draft<'_>,
+    table: &Table,
+    held: &mut Vec<u32>,
+    from: u32,
+    most: u32,
+) -> Result<(), PlanFault> {
+    if draft.is_full() {
+        clear_unneeded(draft, table, held, from, most)?;
+        *held = still_held(alloc, draft, held)?;
+    }
+    Ok(())
 }
 
 // Clears up to `most` of some nodes that are not needed from a node on.
@@ -89,15 +128,14 @@ fn clear_unneeded(
             return Ok(());
         }
         draft.look(1)?;
-        if table.last_use(*node) < from && draft.is_ready(*node)? {
-            draft.clear(*node)?;
+        if table.last_use(*node) < from && draft.clear_ready(*node)? {
             cleared += 1;
         }
     }
     Ok(())
 }
 
-fn still_held(alloc: Global, draft: &Draft<'_>, nodes: &[u32]) -> Result<Vec<u32>, PlanFault> {
+fn still_held(alloc: Global, draft: &Draft<'_>, nodes: &[u32]) -> Result<Vec<u32>, Memory> {
     let mut held = Vec::new(alloc);
     for node in nodes {
         if draft.is_held(*node) {

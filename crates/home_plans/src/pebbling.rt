@@ -1,14 +1,18 @@
 // Pebbling by halves (Bennett, Time/space trade-offs for reversible computation, 1989).
-use crate::draft::{Draft, Drafted};
+use crate::draft::Draft;
 use crate::table::Table;
-use circuit_plans::{Budget, PlanFault};
+use circuit_plans::PlanFault;
 use revc_base::Memory;
 use std::alloc::Global;
 
 /// The plan by halves, down to `depth` halvings: what the second half needs of the first is held, then
 /// what is needed in the end of the second, and then the first half is cleared of what is not.
-pub fn pebbled<'t>(alloc: Global, table: &'t Table, budget: &Budget, depth: u32) -> Drafted<'t> {
-    let mut draft = Draft::new(alloc, table, budget)?;
+pub fn pebbled(
+    alloc: Global,
+    draft: &mut Draft<'_>,
+    table: &Table,
+    depth: u32,
+) -> Result<(), PlanFault> {
     let by = Halving { alloc, table };
     let all = Range {
         start: 0,
@@ -16,8 +20,7 @@ pub fn pebbled<'t>(alloc: Global, table: &'t Table, budget: &Budget, depth: u32)
     };
     let none = Marks::none(alloc, all)?;
     let ends = needed_behind(by, all, &none)?;
-    rise(by, &mut draft, depth, all, &ends)?;
-    Ok(draft)
+    rise(by, draft, depth, all, &ends)
 }
 
 // What the work on ranges goes by.
@@ -74,14 +77,10 @@ impl Marks {
     }
 
     fn has(&self, node: u32) -> bool {
-        match node.checked_sub(self.start) {
-            Some(place) => self
-                .are_marked
-                .get(place as usize)
-                .copied()
-                .unwrap_or(false),
-            None => false,
-        }
+        let Some(place) = node.checked_sub(self.start) else {
+            return false;
+        };
+        (place as usize) < self.are_marked.len() && self.are_marked[place as usize]
     }
 
     // Adds a node, where it is one of the range.
@@ -118,7 +117,7 @@ fn rise(
     if depth == 0 || range.len() <= 1 {
         let mut needed = Marks::none(by.alloc, range)?;
         mark_wanted(&mut needed, range, wanted);
-        return raise(by, draft, range, needed);
+        return raise(by, draft, range, &mut needed);
     }
     let (left, right) = range.halves();
     let needed = needed_behind(by, left, wanted)?;
@@ -135,19 +134,30 @@ fn change(
     wanted: &Marks,
 ) -> Result<(), PlanFault> {
     draft.look(range.looks())?;
-    let mut differing = Marks::none(by.alloc, range)?;
-    if !mark_differing(&mut differing, draft, range, wanted) {
+    if !differs(draft, range, wanted) {
         return Ok(());
     }
     if depth == 0 || range.len() <= 1 {
-        raise(by, draft, range, differing)?;
-        return lower(draft, range, wanted);
+        return change_whole(by, draft, range, wanted);
     }
     let (left, right) = range.halves();
     let needed = needed_behind(by, left, wanted)?;
     change(by, draft, depth - 1, left, &needed)?;
     change(by, draft, depth - 1, right, wanted)?;
     change(by, draft, depth - 1, left, wanted)
+}
+
+// Does so for a range that is not halved.
+fn change_whole(
+    by: Halving,
+    draft: &mut Draft<'_>,
+    range: Range,
+    wanted: &Marks,
+) -> Result<(), PlanFault> {
+    let mut differing = Marks::none(by.alloc, range)?;
+    mark_differing(&mut differing, draft, range, wanted);
+    raise(by, draft, range, &mut differing)?;
+    lower(draft, range, wanted)
 }
 
 fn mark_wanted(marks: &mut Marks, range: Range, wanted: &Marks) {
@@ -158,16 +168,23 @@ fn mark_wanted(marks: &mut Marks, range: Range, wanted: &Marks) {
     }
 }
 
-// Marks the nodes that are held and not wanted, or wanted and not held; false where there are none.
-fn mark_differing(marks: &mut Marks, draft: &Draft<'_>, range: Range, wanted: &Marks) -> bool {
-    let mut some = false;
+// Whether a node is held and not wanted, or wanted and not held.
+fn differs(draft: &Draft<'_>, range: Range, wanted: &Marks) -> bool {
+    for node in range.start..range.end {
+        if draft.is_held(node) != wanted.has(node) {
+            return true;
+        }
+    }
+    false
+}
+
+// Marks the nodes that are held and not wanted, or wanted and not held.
+fn mark_differing(marks: &mut Marks, draft: &Draft<'_>, range: Range, wanted: &Marks) {
     for node in range.start..range.end {
         if draft.is_held(node) != wanted.has(node) {
             marks.add(node);
-            some = true;
         }
     }
-    some
 }
 
 // Holds the marked nodes, and those of the range on which they rest.
@@ -175,11 +192,11 @@ fn raise(
     by: Halving,
     draft: &mut Draft<'_>,
     range: Range,
-    mut marks: Marks,
+    marks: &mut Marks,
 ) -> Result<(), PlanFault> {
     for node in (range.start..range.end).rev() {
         if marks.has(node) {
-            draft.look(mark_operands(&mut marks, by.table, node))?;
+            draft.look(mark_operands(marks, by.table, node))?;
         }
     }
     for node in range.start..range.end {

@@ -5,8 +5,7 @@ ghost use Rattle.held_nodes.specs.Plans.{IsNarrowPlan};
 
 use crate::draft::{Draft, Drafted};
 use crate::homes::Homes;
-use crate::orders::{lazy, ready, segments};
-use crate::pebbling::pebbled;
+use crate::orders::Order;
 use crate::script::moves_of;
 use crate::table::Table;
 use circuit_plans::{Budget, MOST_LINES, PlanFault, Planned};
@@ -31,59 +30,69 @@ const DEPTHS: u32 = 24;
 pub fn plan(alloc: Global, graph: &SumGraph, budget: &Budget) -> Result<Option<Planned>, Memory>
     ensures { IfOk result (λ found. IfSome found (IsNarrowPlan Zero graph.now budget.now)) }
 {
-    let homes = Homes::find(alloc, graph)?;
-    let table = Table::of(alloc, graph, &homes)?;
-    let Some(draft) = best(alloc, &table, budget)? else {
-        return Ok(None);
-    };
-    let lines = table.ports().saturating_add(draft.work());
-    match steps(alloc, graph, &homes, &draft, lines, budget) {
+    match steps(alloc, graph, budget) {
         Ok(steps) => follow(alloc, graph, budget, &steps),
         Err(Stop::Lost) => Ok(None),
         Err(Stop::Memory) => Err(Memory),
     }
 }
 
-// The script of the plan with a forward part, on so many lines.
-fn steps(
+// The script of the best plan that is found.
+fn steps(alloc: Global, graph: &SumGraph, budget: &Budget) -> Result<Vec<Step>, Stop> {
+    let homes = Homes::find(alloc, graph)?;
+    let table = Table::of(alloc, graph, &homes)?;
+    match best(alloc, &table, budget)? {
+        Some(draft) => steps_of(alloc, graph, &homes, &draft, budget),
+        None => Err(Stop::Lost),
+    }
+}
+
+// The script of the plan with this forward part.
+fn steps_of(
     alloc: Global,
     graph: &SumGraph,
     homes: &Homes,
     draft: &Draft<'_>,
-    lines: u32,
     budget: &Budget,
 ) -> Result<Vec<Step>, Stop> {
+    let lines = draft.lines();
     let moves = moves_of(alloc, graph, homes, draft, lines)?;
     let moves = shortened(alloc, moves, lines)?;
     script(alloc, draft.work(), &moves, budget.gates())
 }
 
 fn best<'t>(alloc: Global, table: &'t Table, budget: &Budget) -> Result<Option<Draft<'t>>, Memory> {
-    let mut found = better(None, ready(alloc, table, budget))?;
+    let mut found = better(None, drafted(alloc, table, budget, Order::Ready))?;
     found = better(found, shallowest(alloc, table, budget))?;
     for halvings in 0..LENGTHS {
-        found = better(
-            found,
-            segments(alloc, table, budget, MOST_LINES >> halvings),
-        )?;
+        let length = MOST_LINES >> halvings;
+        let segments = Order::Segments { length };
+        found = better(found, drafted(alloc, table, budget, segments))?;
     }
     for quarterings in 0..SHARES {
         let most = (budget.lines() >> (2 * quarterings)).max(1);
-        found = better(found, lazy(alloc, table, budget, most))?;
+        let lazy = Order::Lazy { most };
+        found = better(found, drafted(alloc, table, budget, lazy))?;
     }
     Ok(found)
+}
+
+fn drafted<'t>(alloc: Global, table: &'t Table, budget: &Budget, order: Order) -> Drafted<'t> {
+    let mut draft = Draft::new(alloc, table, budget)?;
+    order.fill(alloc, &mut draft, table)?;
+    Ok(draft)
 }
 
 // The pebbling of the fewest halvings that fits.
 fn shallowest<'t>(alloc: Global, table: &'t Table, budget: &Budget) -> Drafted<'t> {
     for depth in 0..DEPTHS {
-        match pebbled(alloc, table, budget, depth) {
+        match drafted(alloc, table, budget, Order::Pebbled { depth }) {
             Ok(draft) => return Ok(draft),
             Err(PlanFault::Memory) => return Err(PlanFault::Memory),
             Err(_) => {}
         }
     }
-    pebbled(alloc, table, budget, DEPTHS)
+    drafted(alloc, table, budget, Order::Pebbled { depth: DEPTHS })
 }
 
 // The better one of what was found and what was tried; where they come to the same, the former.

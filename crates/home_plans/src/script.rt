@@ -4,6 +4,7 @@ use crate::homes::Homes;
 use bit_sums::{Product, Sum};
 use dependency_graph::Base;
 use line_moves::{FactorLines, Moves, Writing};
+use revc_base::Memory;
 use span_rows::Stop;
 use std::alloc::Global;
 use sum_graph::SumGraph;
@@ -25,21 +26,9 @@ pub fn moves_of(
     lines: u32,
 ) -> Result<Moves, Stop> {
     let mut script = Script::begun(alloc, graph, lines)?;
-    for step in draft.moves() {
-        script.turn(alloc, graph, *step)?;
-    }
-    for output in 0..graph.outputs().len() as u32 {
-        if homes.guest(output as usize).is_none() {
-            script.add_output(alloc, graph, output)?;
-        }
-    }
-    for step in draft.moves().iter().rev() {
-        match homes.home(step.node) {
-            Some(output) => script.add_output(alloc, graph, output)?,
-            None => script.turn(alloc, graph, *step)?,
-        }
-    }
-    Ok(script.into_moves())
+    script.write(alloc, graph, homes, draft.moves())?;
+    let writing = script.writing;
+    Ok(writing.moves)
 }
 
 // Moves in the making, and the line on which each node stands.
@@ -53,14 +42,34 @@ struct Script {
 impl Script {
     fn begun(alloc: Global, graph: &SumGraph, lines: u32) -> Result<Script, Stop> {
         Ok(Script {
-            writing: Writing::new(alloc, lines)?,
             lines: vec![in alloc; NOWHERE; graph.nodes() as usize]?,
+            writing: Writing::new(alloc, lines)?,
             work: 0,
         })
     }
 
-    fn into_moves(self) -> Moves {
-        self.writing.moves
+    fn write(
+        &mut self,
+        alloc: Global,
+        graph: &SumGraph,
+        homes: &Homes,
+        toggles: &[Move],
+    ) -> Result<(), Stop> {
+        for step in toggles {
+            self.turn(alloc, graph, *step)?;
+        }
+        for output in 0..graph.outputs().len() as u32 {
+            if homes.guest(output as usize).is_none() {
+                self.add_output(alloc, graph, output)?;
+            }
+        }
+        for step in toggles.iter().rev() {
+            match homes.home(step.node) {
+                Some(output) => self.add_output(alloc, graph, output)?,
+                None => self.turn(alloc, graph, *step)?,
+            }
+        }
+        Ok(())
     }
 
     // Toggles a node, which then stands on the line, or not any more.
@@ -99,26 +108,26 @@ impl Script {
                 self.writing.moves.copy(from, onto)?;
             }
         }
-        let mut products = Vec::with_capacity(alloc, sum.products().len())?;
+        let mut products = Vec::new(alloc);
         for product in sum.products() {
             products.push(self.lines_of(alloc, product)?)?;
         }
         self.writing.toggle(node, onto, products, &[])
     }
 
-    fn lines_of(&self, alloc: Global, product: &Product) -> Result<FactorLines, Stop> {
+    fn lines_of(&self, alloc: Global, product: &Product) -> Result<FactorLines, Memory> {
         let first = self.factor_lines(alloc, product.first())?;
         let second = self.factor_lines(alloc, product.second())?;
         Ok(FactorLines { first, second })
     }
 
     // The lines of a factor's bits, rising.
-    fn factor_lines(&self, alloc: Global, bits: &[Base]) -> Result<Vec<u32>, Stop> {
-        let mut lines = Vec::with_capacity(alloc, bits.len())?;
+    fn factor_lines(&self, alloc: Global, bits: &[Base]) -> Result<Vec<u32>, Memory> {
+        let mut lines = Vec::new(alloc);
         for base in bits {
             lines.push(self.line_of(*base))?;
         }
-        lines.sort()?;
+        lines.sort_unstable();
         Ok(lines)
     }
 

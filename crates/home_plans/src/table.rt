@@ -3,6 +3,7 @@ ghost use Rattle.std.specs.Prelude.{◌<◌, length};
 
 use crate::homes::{Homes, nodes_of, push_nodes};
 use crate::weight::Weight;
+use bit_sums::Sum;
 use revc_base::Memory;
 use std::alloc::Global;
 use sum_graph::SumGraph;
@@ -84,11 +85,7 @@ fn row_of(alloc: Global, graph: &SumGraph, homes: &Homes, node: u32) -> Result<R
     if let Some(output) = home {
         if let Some(whole) = graph.outputs().get(output as usize) {
             back = Weight::of(whole).without_bit();
-            let mut rest = nodes_of(alloc, whole)?;
-            rest.pop();
-            operands.append(&mut rest)?;
-            operands.sort_unstable();
-            operands.dedup();
+            add_rest(&mut operands, whole)?;
         }
     }
     Ok(Row {
@@ -96,6 +93,15 @@ fn row_of(alloc: Global, graph: &SumGraph, homes: &Homes, node: u32) -> Result<R
         operands,
         weight: there.plus(back),
     })
+}
+
+// Adds to a node's operands the nodes of the sum of its home, without itself, the greatest of all.
+fn add_rest(operands: &mut Vec<u32>, whole: &Sum) -> Result<(), Memory> {
+    push_nodes(operands, whole)?;
+    operands.sort_unstable();
+    operands.dedup();
+    operands.pop();
+    Ok(())
 }
 
 fn copies_of(graph: &SumGraph, homes: &Homes) -> Weight {
@@ -114,10 +120,7 @@ fn last_uses_of(
     homes: &Homes,
     rows: &[Row],
 ) -> Result<Vec<u32>, Memory> {
-    let mut last_uses = Vec::new(alloc);
-    for node in 0..graph.nodes() {
-        last_uses.push(node)?;
-    }
+    let mut last_uses: Vec<u32> = (0..graph.nodes()).collect(alloc)?;
     for node in 0..graph.nodes() {
         if let Some(row) = rows.get(node as usize) {
             set_all(&mut last_uses, &row.operands, node);
