@@ -30,7 +30,8 @@ Respects t atom = AllFrom (λ number p. atom number ≡ product_value atom p) t.
 -- a sum is the product of two others, wherever atoms have the values of their products
 abbrev pub IsProduct : ProductsView → FormView → FormView → FormView → Type 0
 IsProduct t f g product =
-    (atom : ℕ → Bool) → Respects t atom → form_value atom product ≡ (form_value atom f && form_value atom g)
+    (atom : ℕ → Bool) → Respects t atom
+    → form_value atom product ≡ (form_value atom f && form_value atom g)
 
 -- both give the atoms below a number the same values
 abbrev pub AgreeBelow : ℕ → (ℕ → Bool) → (ℕ → Bool) → Type 0
@@ -39,11 +40,13 @@ AgreeBelow n u v = (a : ℕ) → a < n → u a ≡ v a
 -- the atoms that stand for no product determine the sum's value
 abbrev pub IsDetermined : ProductsView → FormView → Type 0
 IsDetermined t f =
-    (u v : ℕ → Bool) → Respects t u → Respects t v → AgreeBelow t.given u v → form_value u f ≡ form_value v f
+    (u v : ℕ → Bool) → Respects t u → Respects t v → AgreeBelow t.given u v
+    → form_value u f ≡ form_value v f
 
 -- whatever the atoms are that stand for no product, all atoms have values
 abbrev pub HasValuations : ProductsView → Type 0
-HasValuations t = (base : ℕ → Bool) → (atom : ℕ → Bool) × Respects t atom × AgreeBelow t.given base atom
+HasValuations t =
+    (base : ℕ → Bool) → (atom : ℕ → Bool) × Respects t atom × AgreeBelow t.given base atom
 
 -- ---- growth
 

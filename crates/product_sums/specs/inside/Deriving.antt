@@ -12,10 +12,12 @@ use Rattle.product_sums.specs.inside.Tables.{AreTrue}
 -- the pair is the product of two forms
 abbrev pub IsPairOf : List FormView → FormView → FormView → Pair → Type 0
 IsPairOf members f g pair =
-    (atom : ℕ → Bool) → pair_value (length members) (member_value members atom) pair ≡ (form_value atom f && form_value atom g)
+    (atom : ℕ → Bool) → pair_value (length members) (member_value members atom) pair
+    ≡ (form_value atom f && form_value atom g)
 
 -- the pairs have the value of the product and of the sums together, where what is known is true
-abbrev pub IsCollected : List Known → FormView → FormView → List FormView → List Pair → FormView → Type 0
+abbrev pub IsCollected : List Known → FormView → FormView → List FormView → List Pair → FormView
+    → Type 0
 IsCollected known f g members pairs sums =
     (atom : ℕ → Bool) → AreTrue known atom
     → xor_by (pair_value (length members) (member_value members atom)) pairs
@@ -24,4 +26,5 @@ IsCollected known f g members pairs sums =
 -- the sum is the product, where what is known is true
 abbrev pub Follows : List Known → FormView → FormView → FormView → Type 0
 Follows known f g product =
-    (atom : ℕ → Bool) → AreTrue known atom → form_value atom product ≡ (form_value atom f && form_value atom g)
+    (atom : ℕ → Bool) → AreTrue known atom
+    → form_value atom product ≡ (form_value atom f && form_value atom g)

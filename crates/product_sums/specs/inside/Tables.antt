@@ -19,7 +19,8 @@ HasFactors k f g = ((k.first ≡ f) × (k.second ≡ g)) ⊎ ((k.first ≡ g) ×
 -- the products for which an atom was made
 abbrev pub made_of : List Known → List ProductView
 made_of [] = []
-made_of (k ∷ ks) = cond k.made (record { first = k.first; second = k.second } ∷ made_of ks) (made_of ks)
+made_of (k ∷ ks) =
+    cond k.made (record { first = k.first; second = k.second } ∷ made_of ks) (made_of ks)
 
 abbrev pub view_of : ℕ → List Known → ProductsView
 view_of given known = record { given = given; made = made_of known }
