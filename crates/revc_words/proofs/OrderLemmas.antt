@@ -36,8 +36,8 @@ use Rattle.revc_words.specs.Words.{joined, parted, positional, IsOneOf, first_wo
 use Rattle.revc_words.specs.inside.Parsing.{Texts, app_for, bits_for, command_named, kind_for, kind_of, number_for, number_of, number_word, order_by, order_for}
 use Rattle.revc_words.specs.inside.Parsing.{order_of_texts, parsed, takes_any, takes_count, takes_factor, texts_by, texts_in, value_or, values_of}
 use Rattle.revc_words.specs.inside.Parsing.{takes_kind, with_factor}
-use Rattle.revc_words.proofs.ValueLemmas.{Rule, plan_rule, lines_rule, gates_rule, borrow_rule, nodes_rule, start_rule, way_rule, format_rule, by_rule, write_rule}
-use Rattle.revc_words.proofs.ValueLemmas.{number_says, number_found, kind_named, kind_says, right, kept, text_is_no_option}
+use Rattle.revc_words.proofs.ValueLemmas.{Rule, plan_rule, lines_rule, gates_rule, borrow_rule, nodes_rule, start_rule, way_rule, format_rule, by_rule}
+use Rattle.revc_words.proofs.ValueLemmas.{write_rule, number_says, number_found, kind_named, kind_says, right, kept, text_is_no_option}
 use Rattle.revc_words.proofs.WalkLemmas.{by_test, is_one_of, filled_app, run, clap_says, AreTexts}
 use Rattle.revc_words.proofs.SaidLemmas.{Said, said, read, reached, parsed as ends, Fits, AreNew, AreOnce, AreValues, IsNever}
 use Rattle.revc_words.proofs.ReadsLemmas.{is_name, known, known_says, reads, reads_so}
@@ -212,7 +212,8 @@ kind_so given plain by kind number two own e is =
       no_bits = refl;
     }
 
-kind_gives : (given : List Setting) (plain : List (List ℕ)) (by : ℕ) (taken : Taken) → IsRightFactor (value_of (codes "by") given) by → (is : TakesKind given plain taken)
+kind_gives : (given : List Setting) (plain : List (List ℕ)) (by : ℕ) (taken : Taken) → IsRightFactor (value_of (codes "by") given) by
+    → (is : TakesKind given plain taken)
     → (length plain ≡ 2) × (option_and_then (with_factor by) (kind_of (first_word plain)) ≡ Some taken.kind)
     × (number_of 1 MOST_BITS (number_word plain) ≡ Some taken.number)
 kind_gives given plain by taken own is = (
@@ -245,7 +246,8 @@ takes_so KindAndNumber given plain by kind number own count named is =
     kind_so given plain by kind number (grind (arith, nat_tests, count)) (own refl) named is
 
 -- the count, the kind, the number and the bits
-takes_gives : (takes : Positional) (given : List Setting) (plain : List (List ℕ)) (by : ℕ) (taken : Taken) → HasOwnFactor takes given by → TakesWords takes given plain taken
+takes_gives : (takes : Positional) (given : List Setting) (plain : List (List ℕ)) (by : ℕ) (taken : Taken) → HasOwnFactor takes given by
+    → TakesWords takes given plain taken
     → (takes_count takes (length plain) ≡ true) × (kind_for takes by plain ≡ Some taken.kind) × (number_for takes plain ≡ Some taken.number)
     × (taken.bits ≡ bits_for takes plain)
 takes_gives Nothing given plain by taken own is =

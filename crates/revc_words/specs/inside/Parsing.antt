@@ -91,7 +91,8 @@ with_words takes app = cond takes (with_rule app word_rule) app
 
 abbrev pub app_for : Command → App
 app_for command =
-    with_words (takes_any (takes_of command)) (with_options (bare (name_of command)) (options_of command))
+    with_words (takes_any (takes_of command))
+    (with_options (bare (name_of command)) (options_of command))
 
 abbrev pub unless : {A : Type 0} → Kinds → Option A → Option A
 unless [] found = found
