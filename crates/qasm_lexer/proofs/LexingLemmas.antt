@@ -158,7 +158,8 @@ pub empty_is_no_word : IsWord [] → ⊥
 empty_is_no_word (inl e) = false≢true e
 empty_is_no_word (inr (inl e)) = false≢true e
 empty_is_no_word (inr (inr fixed)) =
-    let all : AllByRecursion (λ (w : List ℕ). 1 ≤ length w) fixed_words = (omega arith, (omega arith, (omega arith, (omega arith, (omega arith, (omega arith, tt)))))) in
+    let all : AllByRecursion (λ (w : List ℕ). 1 ≤ length w) fixed_words =
+    (omega arith, (omega arith, (omega arith, (omega arith, (omega arith, (omega arith, tt)))))) in
     let some : 1 ≤ length {A = ℕ} [] = all_among (λ (w : List ℕ). 1 ≤ length w) fixed_words all [] fixed in
     absurd (omega arith)
 
