@@ -24,8 +24,8 @@ const NEW: u8 = 16;
 // A flip of the line behind those that were passed over can come to the change.
 const OPEN: u8 = 32;
 
-/// The lines of a change, with what the flips behind it that were passed over have of them; and where
-/// these begin among the flips that were walked over, once they are so.
+/// The lines of a change, with what the flips behind it that were passed over have of them; and
+/// where these begin among the flips that were walked over, once they are so.
 #[derive(Drop)]
 pub struct Marks {
     words: Vec<u8>,

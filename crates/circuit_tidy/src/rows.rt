@@ -8,8 +8,8 @@ ghost use Rattle.mct_circuit.specs.Sizes.{has_line};
 ghost use Rattle.circuit_tidy.specs.declared.blocks.TheConstants.{MOST_BLOCK_LINES};
 ghost use Rattle.circuit_tidy.specs.Blocks.{addition_of, cx};
 ghost use Rattle.circuit_tidy.specs.Elimination.{eliminated, first_step, second_step};
-ghost use Rattle.circuit_tidy.specs.inside.BitRows.{AddRows, AddsRow, AreOwnWords, AreRowsOf, IsCxOn};
-ghost use Rattle.circuit_tidy.specs.inside.BitRows.{Notes};
+ghost use Rattle.circuit_tidy.specs.inside.BitRows.{AddRows, AddsRow, AreOwnWords, AreRowsOf};
+ghost use Rattle.circuit_tidy.specs.inside.BitRows.{IsCxOn, Notes};
 ghost use Rattle.circuit_tidy.specs.inside.BitRows.{between_places, bit_at_place};
 
 use crate::flip::{Controls, Flip};

@@ -19,8 +19,8 @@ use std::alloc::Global;
 // How many blocks a sweep looks at.
 const MOST_TURNS: u32 = 1 << 30;
 
-/// Flips that were walked over, and flips of which those from a place on are still to come, with what
-/// the walk found of both.
+/// Flips that were walked over, and flips of which those from a place on are still to come, with
+/// what the walk found of both.
 #[derive(Drop)]
 pub struct Sweep {
     done: Vec<Flip>,
@@ -380,8 +380,8 @@ impl Sweep {
     }
 }
 
-// The spans behind the end that do not end before a place go over to those ahead: what is the end there
-// is a place here.
+// The spans behind the end that do not end before a place go over to those ahead: what is the end
+// there is a place here.
 fn pass_on(
     behind: &mut Spans,
     least: usize,

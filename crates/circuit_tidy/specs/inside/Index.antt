@@ -90,15 +90,16 @@ pub record ArePushed (lines : List ℕ) (place : ℕ) (old new : List (Vec ℕ))
       ≡ (if has_line line lines then places_at old line ++ place ∷ [] else places_at old line)
 
 -- the slots, and for each of n lines the places of its flips
-pub record AreIndexes (n : ℕ) (slots : List (Option Flip)) (targets controls : List (Vec ℕ)) : Type 0
-  where
-    pub of_targets : AreIndexed slots has_target targets
-    pub of_controls : AreIndexed slots has_control controls
-    pub target_lines : length targets ≡ n
-    pub control_lines : length controls ≡ n
+pub record AreIndexes (n : ℕ) (slots : List (Option Flip)) (targets controls : List (Vec ℕ))
+    : Type 0 where
+  pub of_targets : AreIndexed slots has_target targets
+  pub of_controls : AreIndexed slots has_control controls
+  pub target_lines : length targets ≡ n
+  pub control_lines : length controls ≡ n
 
 abbrev pub IsIndex : ℕ → Index → Type 0
-IsIndex n index = AreIndexes n index.slots.items index.by_target.lists.items index.by_control.lists.items
+IsIndex n index =
+    AreIndexes n index.slots.items index.by_target.lists.items index.by_control.lists.items
 
 -- what stands of the index where only places of empty slots go
 pub record KeepsSlots (n : ℕ) (old new : Index) : Type 0 where

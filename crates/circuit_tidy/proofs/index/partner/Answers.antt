@@ -4,13 +4,13 @@ use Rattle.circuit_tidy.proofs.index.partner.Goals as goal
 
 pub returns-then-place-bound : goal.returns-then-place-bound
 returns-then-place-bound c =
-    none_before c.args.slots.now c.args.flip c.args.bound c.args.places.now c.search.left c.requires c.search-test.true c.search.invariant.0 c.search.invariant.1
-    c.if-place-bound.true
+    none_before c.args.slots.now c.args.flip c.args.bound c.args.places.now c.search.left c.requires c.search-test.true c.search.invariant.0
+    c.search.invariant.1 c.if-place-bound.true
 
 pub returns-then-is_like : goal.returns-then-is_like
 returns-then-is_like c =
-    partner_at c.args.slots.now c.args.flip c.args.bound c.args.places.now c.search.left c.requires c.search-test.true c.search.invariant.0 c.search.invariant.1
-    c.if-place-bound.false (sym c.is_like.ensures ∙ c.if-is_like.true)
+    partner_at c.args.slots.now c.args.flip c.args.bound c.args.places.now c.search.left c.requires c.search-test.true c.search.invariant.0
+    c.search.invariant.1 c.if-place-bound.false (sym c.is_like.ensures ∙ c.if-is_like.true)
 
 pub search-preserved : goal.search-preserved
 search-preserved c = (

@@ -39,13 +39,15 @@ pub behind_target-as_first-requires-clause-index : goal.behind_target-as_first-r
 behind_target-as_first-requires-clause-index c = still_index (goal.at.behind_target-as_first-requires-clause-index c).After-behind_last-as_control
 
 pub behind_target-as_target-requires-clause-line : goal.behind_target-as_target-requires-clause-line
-behind_target-as_target-requires-clause-line c = (lines_low (goal.at.behind_target-as_target-requires-clause-line c).After-behind_last-as_control _ c.in-One.is).0
+behind_target-as_target-requires-clause-line c =
+    (lines_low (goal.at.behind_target-as_target-requires-clause-line c).After-behind_last-as_control _ c.in-One.is).0
 
 pub behind_target-as_first-requires-clause-line : goal.behind_target-as_first-requires-clause-line
 behind_target-as_first-requires-clause-line c = (lines_low (goal.at.behind_target-as_first-requires-clause-line c).After-behind_last-as_control _ c.in-Two.is).0
 
 pub behind_target-as_second-requires-clause-line : goal.behind_target-as_second-requires-clause-line
-behind_target-as_second-requires-clause-line c = (lines_low (goal.at.behind_target-as_second-requires-clause-line c).After-behind_last-as_control _ c.in-Two.is).1.0
+behind_target-as_second-requires-clause-line c =
+    (lines_low (goal.at.behind_target-as_second-requires-clause-line c).After-behind_last-as_control _ c.in-Two.is).1.0
 
 pub returns-in-Zero : goal.returns-in-Zero
 returns-in-Zero c =
