@@ -4,7 +4,8 @@ use Rattle.std.proofs.Common.{sym, ap, ap₂, ◌∙◌, subst, arith, Result, l
 use Rattle.std.specs.Bool.{xor}
 use Rattle.std.specs.List.{AllByRecursion}
 use Rattle.std.proofs.lemmas.Simd.{get_or-zip2, length-zip2}
-use Rattle.std.proofs.lemmas.List.{get_or-append-add, get_or_append_left, length-drop, length-map, length-replicate, length-take-le, map-append, take_all, take_more}
+use Rattle.std.proofs.lemmas.List.{get_or-append-add, get_or_append_left, length-drop, length-map, length-replicate, length-take-le}
+use Rattle.std.proofs.lemmas.List.{map-append, take_all, take_more}
 use Rattle.list_facts.specs.Bits.{bit_of, zeros}
 use Rattle.list_facts.proofs.AllLemmas.{AllByRecursion-at, AllByRecursion-right}
 use Rattle.dependency_graph.specs.declared.node.Node.{Node}

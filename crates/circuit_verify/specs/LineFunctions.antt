@@ -39,7 +39,8 @@ value_on q f bits = held_bit q f.of (with_fixed (order_in q) f.fixed bits)
 
 -- Two of them are one function of the variables.
 abbrev pub IsSameFunction : Comparison → LineFunction → LineFunction → Type 0
-IsSameFunction q f g = (bits : List Bool) → AreBitsFor q bits → value_on q f bits ≡ value_on q g bits
+IsSameFunction q f g =
+    (bits : List Bool) → AreBitsFor q bits → value_on q f bits ≡ value_on q g bits
 
 abbrev pub IsConstant : Comparison → LineFunction → Type 0
 IsConstant q f = (one other : List Bool) → AreBitsFor q one → AreBitsFor q other

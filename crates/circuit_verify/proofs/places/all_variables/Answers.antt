@@ -22,7 +22,8 @@ returns c =
     let inputs = c.inputs-variable.ensures.inputs ∙ ap (λ (w : ComparedView). w.graph.inputs) c.compared.view_is ∙ sym ready.inputs in
     let own = subst (λ (w : ComparedView). AreVariables (sum w.params) (variable_order w.params) c.in_ok-all.all.items) c.compared.view_is
     c.in_ok-all.ensures in
-    variables_are v.params c.inputs-variable.result (variables_behind (comparison v)) c.loop-variable.variable c.in_ok-all.all.items c.loop-variable.all.items inputs
+    variables_are v.params c.inputs-variable.result (variables_behind (comparison v)) c.loop-variable.variable c.in_ok-all.all.items
+    c.loop-variable.all.items inputs
     (omega (
       arith,
       inputs,
