@@ -109,7 +109,7 @@ file_gives write format order text (Ok made) is written t same h =
 arith_fault : (write : Write) (format : Format) (order : OrderView) (fault : Fault) → order.write ≡ write
     → (PassesBudget (compile_order format) (program_text order) fault → StopsAs write order fault)
     → IsBudgetFault (compile_order format) (program_text order) fault → IsArithFault order fault
-arith_fault write format order faults.Memory is stops h = tt
+arith_fault write format order (faults.Memory _) is stops h = tt
 arith_fault write format order fault is stops h = subst (λ (write : Write). StopsAs write order fault) (sym is) (stops h)
 
 -- nothing else stops `compile` at the text

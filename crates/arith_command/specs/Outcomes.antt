@@ -19,5 +19,5 @@ CanBeWritten (File format laid) = IsWritable laid
 
 -- why there is nothing to write, or there was no memory left
 abbrev pub IsArithFault : OrderView → Fault → Type 0
-IsArithFault order Memory = Unit {0}
+IsArithFault order (Memory _) = Unit {0}
 IsArithFault order fault = IsCause order [] fault

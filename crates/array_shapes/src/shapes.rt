@@ -4,7 +4,7 @@ ghost use Rattle.std.specs.Prelude.{slice_get, IfOk, IsErrOf};
 ghost use Rattle.array_shapes.specs.declared.shapes.ShapeFault.TheVariants as faults;
 ghost use Rattle.revs_terms.specs.declared.limits.TheConstants.{MOST_PLACES};
 
-use revc_base::WantOfMemory;
+use revc_base::{Memory, WantOfMemory};
 use revs_terms::limits::MOST_PLACES;
 use std::alloc::Global;
 
@@ -18,14 +18,14 @@ pub enum ShapeFault {
     /// The register would have more than 4,096 places.
     Length,
     /// Want of memory.
-    Memory,
+    Memory(Memory),
 }
 
 impl<M: WantOfMemory> From<M> for ShapeFault {
-    ghost from_gives = { λ _ e. e ≡ faults.Memory };
+    ghost from_gives = { λ _ e. e ≡ faults.Memory _ };
 
-    fn from(_: M) -> ShapeFault {
-        ShapeFault::Memory
+    fn from(want: M) -> ShapeFault {
+        ShapeFault::Memory(want.memory())
     }
 }
 

@@ -50,7 +50,7 @@ pub short-weaker : (f : ForwardView) (reach more toggles larger : ℕ) (e : Plan
     → IsShort f reach toggles e → IsShort f more larger e
 short-weaker f reach more toggles larger (Lines need) low few s = omega (arith, s, low)
 short-weaker f reach more toggles larger Gates low few s = λ light. omega (arith, s light, few)
-short-weaker f reach more toggles larger Memory low few s = tt
+short-weaker f reach more toggles larger (Memory _) low few s = tt
 
 same_work : (s t : SumGraphView) (b c : BudgetView) → s ≡ t → b ≡ c → work_lines s b ≡ work_lines t c
 same_work s t b c e d = ap (λ (x : SumGraphView). work_lines x b) e ∙ ap (λ (x : BudgetView). work_lines t x) d
@@ -63,7 +63,7 @@ need-then f mid (Lines need) alike same h =
       omega (arith, h.1, work, nodes),
     )
 need-then f mid Gates alike same h = tt
-need-then f mid Memory alike same h = tt
+need-then f mid (Memory _) alike same h = tt
 
 -- a move that falls short after another
 pub short-then : (f mid : ForwardView) (reach first second : ℕ) (e : PlanFault) → IsMove f reach first mid → IsShort mid reach second e
@@ -74,7 +74,7 @@ short-then f mid reach first second (Lines need) m s =
 short-then f mid reach first second Gates m s =
     let same : mid.budget.gates ≡ f.budget.gates = ap (λ (b : BudgetView). b.gates) m.budget in
     λ light. omega (arith, s (subst IsLight (sym m.graph) light), m.weight light, same)
-short-then f mid reach first second Memory m s = tt
+short-then f mid reach first second (Memory _) m s = tt
 
 pub fault-weaker : (f : ForwardView) (reach more toggles larger : ℕ) (e : PlanFault) → reach ≤ more → toggles ≤ larger
     → IsMoveFault f reach toggles e → IsMoveFault f more larger e
@@ -93,7 +93,7 @@ fault-then f mid reach first second e m s = record {
 pub heavy-weaker : (f : ForwardView) (weight more : ℕ) (e : PlanFault) → weight ≤ more → IsHeavy f weight e → IsHeavy f more e
 heavy-weaker f weight more (Lines need) le h = tt
 heavy-weaker f weight more Gates le h = omega (arith, h, le)
-heavy-weaker f weight more Memory le h = tt
+heavy-weaker f weight more (Memory _) le h = tt
 
 pub price_if-most : (turn : Bool) (price : ℕ) → price_if turn price ≤ price
 price_if-most true price = omega arith
@@ -106,4 +106,4 @@ heavy-then f mid first second (Lines need) same le h = tt
 heavy-then f mid first second Gates same le h =
     let gates : mid.budget.gates ≡ f.budget.gates = ap (λ (b : BudgetView). b.gates) same in
     omega (arith, h, le, gates)
-heavy-then f mid first second Memory same le h = tt
+heavy-then f mid first second (Memory _) same le h = tt

@@ -238,7 +238,7 @@ module _ (s : SumGraphView) (b : BudgetView) (block : ℕ) (start : ForwardView)
           let heavy = (fault.plain (omega (arith, low, begin.count))).heavy in
           omega (arith, heavy, gates_is, start_weight, whole_prices toggle_weight);
     }
-    rise_refused Memory fault = room
+    rise_refused (Memory _) fault = room
 
     -- ---- planned
 
@@ -342,7 +342,7 @@ module _ (s : SumGraphView) (b : BudgetView) (block : ℕ) (start : ForwardView)
             omega (arith, fault, f_gates, finished_few h.within.light, move, start_weight, fine_toggles levels one, h.within.outputs);
         plain = λ low. omega (arith, fault, f_gates, finished_plain low);
       }
-      finish_refused Memory fault = room
+      finish_refused (Memory _) fault = room
 
 -- what is said of a finished plan, where there is one
 pub of_finished : (r : Result PlannedView PlanFault) (f : ForwardView) (Q : PlannedView → Type 0) → IfOk r (λ planned. planned ≡ planned_of f)

@@ -127,4 +127,4 @@ not_turned_over f k Gates forward low fault = record {
   };
   heavy = omega (arith, fault.1.heavy, price_node toggle_weight f.graph k fault.1.node fault.1.is);
 }
-not_turned_over f k Memory forward low fault = record { fault = λ allowed allows. record { need = tt; short = tt }; heavy = tt }
+not_turned_over f k (Memory _) forward low fault = record { fault = λ allowed allows. record { need = tt; short = tt }; heavy = tt }

@@ -45,4 +45,4 @@ HasFewGates e block b = InEachRow e block b.borrow (λ row_lines row_gates. b.ga
 abbrev pub IsBlockFault : Extent → ℕ → BudgetView → PlanFault → Type 0
 IsBlockFault e block b (Lines need) = HasFewLines e block b × (need ≡ wanted_lines e.ports b)
 IsBlockFault e block b Gates = HasFewGates e block b
-IsBlockFault e block b Memory = HasPortLines e.ports b
+IsBlockFault e block b (Memory _) = HasPortLines e.ports b

@@ -70,4 +70,4 @@ abbrev pub IsPebblingFault : SumGraphView → ℕ → BudgetView → PlanFault �
 IsPebblingFault s block b (Lines need) =
     HasNoLineEach s b × IsBlockFault (extent_of s) block b (Lines need)
 IsPebblingFault s block b Gates = IsBlockFault (extent_of s) block b Gates
-IsPebblingFault s block b Memory = IsBlockFault (extent_of s) block b Memory
+IsPebblingFault s block b (Memory _) = IsBlockFault (extent_of s) block b (Memory _)

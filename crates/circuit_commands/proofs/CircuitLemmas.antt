@@ -43,12 +43,12 @@ use Rattle.list_facts.proofs.FirstLemmas.{all_at, first_same}
 abbrev real_refusal : RealFault → CircuitRefusal
 real_refusal (reals.Line number) = Line number
 real_refusal (reals.Limit number) = LineLimit number
-real_refusal reals.Memory = TooLong
+real_refusal (reals.Memory _) = TooLong
 
 abbrev qasm_refusal : QasmFault → CircuitRefusal
 qasm_refusal (qasms.Token at) = Token at
 qasm_refusal (qasms.Limit at) = TokenLimit at
-qasm_refusal qasms.Memory = TooLong
+qasm_refusal (qasms.Memory _) = TooLong
 
 -- a fault of the reader for which this is the refusal
 record IsRealCause (text : List ℕ) (refusal : CircuitRefusal) : Type 0 where
@@ -176,7 +176,7 @@ pub measured_of : {E : Type 0} (from : Format) (text : List ℕ) (circuit : Read
 measured_of from text circuit (Ok sizes) means is = record { circuit = circuit; means = means; lines = ap stat.stat_text is }
 measured_of from text circuit (Err fault) means is = tt
 
-pub memory_stops : {T : Type 0} (from : Format) (text : List ℕ) (r : Result T Fault) → IfErr r (λ fault. fault ≡ faults.Memory)
+pub memory_stops : {T : Type 0} (from : Format) (text : List ℕ) (r : Result T Fault) → IfErr r (λ fault. fault ≡ faults.Memory _)
     → IfErr r (IsCircuitFault from text)
 memory_stops from text (Ok sizes) is = tt
 memory_stops from text (Err fault) is = subst (IsCircuitFault from text) (sym is) tt
@@ -248,10 +248,10 @@ pub refused_real : (text : List ℕ) (fault : RealFault) → length text ≤ MOS
     → IsCircuitFault Real text (real_fault fault)
 refused_real text (reals.Line number) short h = record { short = short; cause = h }
 refused_real text (reals.Limit number) short h = record { short = short; cause = h }
-refused_real text reals.Memory short h = tt
+refused_real text (reals.Memory _) short h = tt
 
 pub refused_qasm : (text : List ℕ) (fault : QasmFault) → length text ≤ MOST_CIRCUIT_BYTES → IsQasmFault text fault
     → IsCircuitFault Qasm text (qasm_fault fault)
 refused_qasm text (qasms.Token at) short h = record { short = short; cause = h }
 refused_qasm text (qasms.Limit at) short h = record { short = short; cause = h }
-refused_qasm text qasms.Memory short h = tt
+refused_qasm text (qasms.Memory _) short h = tt

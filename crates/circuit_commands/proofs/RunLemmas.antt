@@ -244,5 +244,5 @@ pub run_stops : {T : Type 0} (from : Format) (words : List (List ℕ)) (text : L
     → IfErr r (IsWordsFault circuit words) → IfErr r (IsRunFault from words text)
 run_stops from words text circuit (Ok lines) means h = tt
 run_stops from words text circuit (Err (faults.BadBits number)) means h = record { circuit = circuit; means = means; first = h }
-run_stops from words text circuit (Err faults.Memory) means h = tt
+run_stops from words text circuit (Err (faults.Memory _)) means h = tt
 run_stops from words text circuit (Err fault) means h = absurd h

@@ -10,21 +10,21 @@ use Rattle.circuit_commands.specs.Convert.{IsNarrowFile, Narrowing, PassesLines,
 -- why a text means no circuit, or there was no memory left
 abbrev pub IsCircuitFault : Format → List ℕ → Fault → Type 0
 IsCircuitFault from text (Circuit refusal) = IsCircuitRefusal from text refusal
-IsCircuitFault from text Memory = Unit {0}
+IsCircuitFault from text (Memory _) = Unit {0}
 IsCircuitFault from text _ = ⊥
 
 -- why words give no bits: this word is the first that is no input of the circuit, or there was no memory left, which is
 -- asked for only where each word is an input
 abbrev pub IsWordsFault : ReadCircuit → List (List ℕ) → Fault → Type 0
 IsWordsFault circuit words (BadBits number) = IsFirstUnfit circuit words number
-IsWordsFault circuit words Memory = AreInputs circuit words
+IsWordsFault circuit words (Memory _) = AreInputs circuit words
 IsWordsFault circuit words _ = ⊥
 
 -- why a circuit text and words give no bits, or there was no memory left
 abbrev pub IsRunFault : Format → List (List ℕ) → List ℕ → Fault → Type 0
 IsRunFault from words text (Circuit refusal) = IsCircuitRefusal from text refusal
 IsRunFault from words text (BadBits number) = HasBadWord from words text number
-IsRunFault from words text Memory = Unit {0}
+IsRunFault from words text (Memory _) = Unit {0}
 IsRunFault from words text _ = ⊥
 
 -- a circuit that waits to be written, and whether its last line was added
@@ -43,5 +43,5 @@ abbrev pub IsConvertFault : (most : ℕ) → Format → List ℕ → Fault → T
 IsConvertFault most from text (Circuit refusal) = IsCircuitRefusal from text refusal
 IsConvertFault most from text (Lines need limit) = PassesLines most from text need limit
 IsConvertFault most from text (Gates limit) = PassesGates most from text limit
-IsConvertFault most from text Memory = Unit {0}
+IsConvertFault most from text (Memory _) = Unit {0}
 IsConvertFault most from text _ = ⊥

@@ -139,7 +139,7 @@ fn real_fault(fault: RealFault) -> Fault
     match fault {
         RealFault::Line { number } => Fault::Circuit(CircuitRefusal::Line { number }),
         RealFault::Limit { number } => Fault::Circuit(CircuitRefusal::LineLimit { number }),
-        RealFault::Memory => Fault::Memory,
+        RealFault::Memory(memory) => Fault::Memory(memory),
     }
 }
 
@@ -149,6 +149,6 @@ fn qasm_fault(fault: QasmFault) -> Fault
     match fault {
         QasmFault::Token { at } => Fault::Circuit(CircuitRefusal::Token { at }),
         QasmFault::Limit { at } => Fault::Circuit(CircuitRefusal::TokenLimit { at }),
-        QasmFault::Memory => Fault::Memory,
+        QasmFault::Memory(memory) => Fault::Memory(memory),
     }
 }

@@ -94,7 +94,7 @@ fn split_gates(alloc: Global, source: &MarkedCircuit, most: u64) -> Result<Narro
         Ok(narrow) => Ok(narrow),
         Err(SplitFault::NoIdle { .. }) => split_wider(alloc, source, most),
         Err(SplitFault::Gates) => Err(Fault::Gates { limit: most }),
-        Err(SplitFault::Memory) => Err(Fault::Memory),
+        Err(SplitFault::Memory(memory)) => Err(Fault::Memory(memory)),
     }
 }
 
@@ -117,7 +117,7 @@ fn split_wider(alloc: Global, source: &MarkedCircuit, most: u64) -> Result<Narro
         Ok(narrow) => Ok(narrow),
         Err(SplitFault::NoIdle { .. }) => unreachable!(),
         Err(SplitFault::Gates) => Err(Fault::Gates { limit: most }),
-        Err(SplitFault::Memory) => Err(Fault::Memory),
+        Err(SplitFault::Memory(memory)) => Err(Fault::Memory(memory)),
     }
 }
 
@@ -126,7 +126,7 @@ pub(crate) fn marked(source: MarkedCircuit, narrow: Narrow) -> Result<Converted,
     requires lines { HasLines source }
     requires on_lines { IsOnLinesOf source narrow }
     ensures ok { IfOk result (IsMarked source narrow) }
-    ensures err { IfErr result (λ fault. fault ≡ Fault.Memory) }
+    ensures err { IfErr result (λ fault. fault ≡ Fault.Memory _) }
 {
     let own_lines = source.circuit().lines();
     let lines = narrow.circuit().lines();

@@ -44,7 +44,7 @@ pub fn measure(alloc: Global, text: &[u8], from: Format) -> Result<Sizes, Fault>
 // The sizes of a circuit. A fault is want of memory.
 fn sizes_of(source: &MarkedCircuit) -> Result<Sizes, Fault>
     ensures ok { IfOk result (λ sizes. sizes ≡ sizes_of source.now) }
-    ensures err { IfErr result (λ fault. fault ≡ Fault.Memory) }
+    ensures err { IfErr result (λ fault. fault ≡ Fault.Memory _) }
 {
     let circuit = source.circuit();
     Ok(Sizes {

@@ -10,7 +10,7 @@ ghost use Rattle.mct_circuit.specs.Gates.{AreNarrow};
 use crate::narrow::Narrow;
 use crate::roles::Roles;
 use mct_circuit::Circuit;
-use revc_base::WantOfMemory;
+use revc_base::{Memory, WantOfMemory};
 use std::marker::Model;
 
 /// The most lines of a circuit.
@@ -225,13 +225,13 @@ impl Laid {
 pub enum PlanFault {
     Lines { need: u32 },
     Gates,
-    Memory,
+    Memory(Memory),
 }
 
 impl<M: WantOfMemory> From<M> for PlanFault {
-    ghost from_gives = { λ _ e. e ≡ faults.Memory };
+    ghost from_gives = { λ _ e. e ≡ faults.Memory _ };
 
-    fn from(_: M) -> PlanFault {
-        PlanFault::Memory
+    fn from(want: M) -> PlanFault {
+        PlanFault::Memory(want.memory())
     }
 }

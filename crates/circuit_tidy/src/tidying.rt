@@ -39,7 +39,7 @@ pub fn tidy(alloc: Global, narrow: &Narrow) -> Result<Narrow, Memory>
     let tidied = circuit_of(alloc, lines, limit, &flips)?;
     match split(alloc, &tidied, lines, limit) {
         Ok(narrow) => Ok(narrow),
-        Err(SplitFault::Memory) => Err(Memory),
+        Err(SplitFault::Memory(memory)) => Err(memory),
         Err(SplitFault::NoIdle { .. }) => unreachable!(),
         Err(SplitFault::Gates) => unreachable!(),
     }
@@ -116,7 +116,7 @@ fn push(circuit: &mut Circuit, flip: Flip) -> Result<(), Memory>
 {
     match push_flip(circuit, flip) {
         Ok(()) => Ok(()),
-        Err(GateFault::Memory) => Err(Memory),
+        Err(GateFault::Memory(memory)) => Err(memory),
         Err(GateFault::Full) => unreachable!(),
     }
 }

@@ -86,7 +86,7 @@ refused q h f d limit comparable holds holder same is_limit (Full nodes) cause =
       record { members = many.members; are = many.are; apart = many.apart; many = many.many ∙ ap (λ l. l + 1) is_limit },
       cause.at_limit ∙ is_limit,
     )
-refused q h f d limit comparable holds holder same is_limit Memory cause = comparable
+refused q h f d limit comparable holds holder same is_limit (Memory _) cause = comparable
 
 -- what a call that was asked for a function of what holds a bit leaves, and what its faults say
 pub record IsAnswered (q : Comparison) (f : Function) (first new : DiagramView) : Type 0 where

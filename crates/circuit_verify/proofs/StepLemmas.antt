@@ -437,7 +437,7 @@ ends_many v ready nodes now want ends =
     )
 
 -- a gate that is refused for want of memory is refused where there is room for a node more
-pub refused_room : (f : Function) (d : DiagramView) (fault : DdFault) → verify_fault fault ≡ faults.Memory → MayRefuse f d fault
+pub refused_room : (f : Function) (d : DiagramView) (fault : DdFault) → verify_fault fault ≡ faults.Memory _ → MayRefuse f d fault
     → length d.nodes < d.limit
 refused_room f d (dd.Full nodes) is refused = absurd (cc)
-refused_room f d dd.Memory is refused = refused
+refused_room f d (dd.Memory _) is refused = refused

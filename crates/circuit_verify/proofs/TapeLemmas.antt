@@ -126,7 +126,7 @@ module _ (params : List ℕ) (steps others : ℕ) (step other : ℕ → List Boo
   fault_moved most (faults.Gate gate) is = is
   fault_moved most (faults.Diagram nodes) is = (comparable_moved is.0, more_moved most is.1, is.2)
   fault_moved most (faults.Differs line bits) is = (comparable_moved is.0, differs_moved line bits is.1)
-  fault_moved most faults.Memory is = comparable_moved is
+  fault_moved most (faults.Memory _) is = comparable_moved is
 
 -- ---- a tape
 

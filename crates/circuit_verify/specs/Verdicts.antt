@@ -64,12 +64,12 @@ IsVerifyFault q limit (faults.Lines need) = (q.circuit.lines < need) × (need �
 IsVerifyFault q limit (faults.Gate gate) = HasEnoughLines q × IsFirstWide q.circuit.gates gate
 IsVerifyFault q limit (faults.Diagram nodes) = IsComparable q × HasMore q limit × (nodes ≡ limit)
 IsVerifyFault q limit (faults.Differs line bits) = IsComparable q × DiffersFirst q line bits
-IsVerifyFault q limit faults.Memory = IsComparable q
+IsVerifyFault q limit (faults.Memory _) = IsComparable q
 
 -- the fault of a diagram as that of a comparison
 abbrev pub verify_fault : DdFault → VerifyFault
 verify_fault (dd.Full nodes) = faults.Diagram nodes
-verify_fault dd.Memory = faults.Memory
+verify_fault (dd.Memory _) = faults.Memory _
 
 -- ---- laws
 

@@ -4,7 +4,7 @@ ghost use Rattle.circuit_verify.specs.declared.fault.VerifyFault.TheVariants as 
 ghost use Rattle.circuit_verify.specs.Verdicts.{verify_fault};
 
 use decision_diagram::DdFault;
-use revc_base::{Bits, Memory};
+use revc_base::{Bits, Memory, WantOfMemory};
 use std::alloc::{AllocError, AllocFailed};
 
 /// Why a circuit is not verified against a program. Lines and gates are counted from 0.
@@ -23,14 +23,14 @@ pub enum VerifyFault {
     /// then for the borrowed lines.
     Differs { line: u32, bits: Bits },
     /// Want of memory.
-    Memory,
+    Memory(Memory),
 }
 
 impl From<Memory> for VerifyFault {
-    ghost from_gives = { λ _ e. e ≡ faults.Memory };
+    ghost from_gives = { λ _ e. e ≡ faults.Memory _ };
 
-    fn from(_: Memory) -> VerifyFault {
-        VerifyFault::Memory
+    fn from(want: Memory) -> VerifyFault {
+        VerifyFault::Memory(want)
     }
 }
 
@@ -40,23 +40,23 @@ impl From<DdFault> for VerifyFault {
     fn from(fault: DdFault) -> VerifyFault {
         match fault {
             DdFault::Full { nodes } => VerifyFault::Diagram { nodes },
-            DdFault::Memory => VerifyFault::Memory,
+            DdFault::Memory(memory) => VerifyFault::Memory(memory),
         }
     }
 }
 
 impl From<AllocError> for VerifyFault {
-    ghost from_gives = { λ _ e. e ≡ faults.Memory };
+    ghost from_gives = { λ _ e. e ≡ faults.Memory _ };
 
-    fn from(_: AllocError) -> VerifyFault {
-        VerifyFault::Memory
+    fn from(want: AllocError) -> VerifyFault {
+        VerifyFault::Memory(want.memory())
     }
 }
 
 impl<T: Drop> From<AllocFailed<T>> for VerifyFault {
-    ghost from_gives = { λ _ e. e ≡ faults.Memory };
+    ghost from_gives = { λ _ e. e ≡ faults.Memory _ };
 
-    fn from(_: AllocFailed<T>) -> VerifyFault {
-        VerifyFault::Memory
+    fn from(want: AllocFailed<T>) -> VerifyFault {
+        VerifyFault::Memory(want.memory())
     }
 }

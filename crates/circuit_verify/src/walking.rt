@@ -111,7 +111,7 @@ fn walk(diagram: &mut Diagram, compared: &Compared, lines: &mut [Dd]) -> Result<
     ensures ends { OnOk result (AreNumbersOf (comparison compared.now) diagram.new.nodes lines.new
         (λ bits. line_map compared.now.circuit.gates (start_on (comparison compared.now) bits))) }
     ensures refused { IfErr result (IsVerifyFault (comparison compared.now) diagram.new.limit) }
-    ensures memory { IsErrOf result VerifyFault.Memory
+    ensures memory { IsErrOf result (VerifyFault.Memory _)
         → length diagram.new.nodes < diagram.new.limit }
 {
     let _ = compared.variables(); // shows what is known of both

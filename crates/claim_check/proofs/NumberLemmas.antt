@@ -223,7 +223,7 @@ pub pass_limit : (t : TapeView) (claims : ℕ) (ref : Ref) (d : DiagramView) →
     → (fault : DdFault) → MayRefuse (function_at t ref) d fault → PassLimit t claims d fault
 pass_limit t claims ref d members base (faults.Full nodes) refused =
     (passes t claims ref (function_at t ref) d nodes members base (λ a. refl) refused, refused.at_limit)
-pass_limit t claims ref d members base faults.Memory refused = refused
+pass_limit t claims ref d members base (faults.Memory _) refused = refused
 
 -- a fault that is handed on has its cause
 pub refused_at : {A E : Type 0} (Q : E → Type 0) (r : Result A E) (e : E) → IsErrAnd r (λ x. x ≡ e) → Q e → IfErr r Q

@@ -137,13 +137,13 @@ pub passed : (t : TapeView) (limit number : ℕ) (claim : Claim) (d : DiagramVie
     → IsClaimFault t limit (claim_fault number fault)
 passed t limit number claim d at hold few same (faults.Full nodes) pass =
     (record { claim = claim; is_claim = at; before = hold; few = few; more = subst (HasMore t (number + 1)) same pass.0 }, pass.1 ∙ same)
-passed t limit number claim d at hold few same faults.Memory pass = tt
+passed t limit number claim d at hold few same (faults.Memory _) pass = tt
 
 -- memory that was wanted for numbers was wanted where there is room
-pub wanted_room : (t : TapeView) (number claims : ℕ) (d : DiagramView) (fault : DdFault) → claim_fault number fault ≡ claim_faults.Memory
+pub wanted_room : (t : TapeView) (number claims : ℕ) (d : DiagramView) (fault : DdFault) → claim_fault number fault ≡ claim_faults.Memory _
     → PassLimit t claims d fault → length d.nodes < d.limit
 wanted_room t number claims d (faults.Full nodes) is pass = absurd (cc)
-wanted_room t number claims d faults.Memory is pass = pass
+wanted_room t number claims d (faults.Memory _) is pass = pass
 
 -- before the first claim nothing is asked
 pub none_settled : (t : TapeView) (labels : List ℕ) (limit n : ℕ) (d : DiagramView) (numbers : List ℕ) → n ≡ inputs_of t → IsCanonical d

@@ -39,7 +39,7 @@ pub record PassesAt (t : TapeView) (limit number : ℕ) : Type 0 where
 abbrev pub IsClaimFault : TapeView → ℕ → ClaimFault → Type 0
 IsClaimFault t limit (Broken number input) = BreaksOn t limit number input
 IsClaimFault t limit (Diagram number nodes) = PassesAt t limit number × (nodes ≡ limit)
-IsClaimFault t limit Memory = Unit {0}
+IsClaimFault t limit (Memory _) = Unit {0}
 
 -- ---- the law: the claims of a tape end in one way
 

@@ -39,7 +39,7 @@ fn claim_fault(claim: u32, fault: DdFault) -> ClaimFault
 {
     match fault {
         DdFault::Full { nodes } => ClaimFault::Diagram { claim, nodes },
-        DdFault::Memory => ClaimFault::Memory,
+        DdFault::Memory(memory) => ClaimFault::Memory(memory),
     }
 }
 
@@ -114,7 +114,7 @@ fn settle_claim(
     ensures settled { OnOk result (AreSettled tape.now schedule.now.labels.items
         diagram.old.limit (number + 1) diagram.new numbers.new) }
     ensures refused { IfErr result (IsClaimFault tape.now diagram.old.limit) }
-    ensures memory { IsErrOf result ClaimFault.Memory
+    ensures memory { IsErrOf result (ClaimFault.Memory _)
         → (length diagram.new.nodes < diagram.new.limit)
         ⊎ AreMade tape.now schedule.now.labels.items (number + 1) 0 diagram.new.nodes
         numbers.new }

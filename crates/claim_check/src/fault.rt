@@ -2,7 +2,7 @@
 ghost use Rattle.std.specs.Prelude.{◌≡◌};
 ghost use Rattle.claim_check.specs.declared.fault.ClaimFault.TheVariants as faults;
 
-use revc_base::{Bits, WantOfMemory};
+use revc_base::{Bits, Memory, WantOfMemory};
 
 /// Why the claims of a tape are not settled. Claims are counted from 0.
 #[derive(Debug, Drop)]
@@ -14,13 +14,13 @@ pub enum ClaimFault {
     /// hold on all inputs, and rest on no more.
     Diagram { claim: u32, nodes: u32 },
     /// Want of memory.
-    Memory,
+    Memory(Memory),
 }
 
 impl<M: WantOfMemory> From<M> for ClaimFault {
-    ghost from_gives = { λ _ e. e ≡ faults.Memory };
+    ghost from_gives = { λ _ e. e ≡ faults.Memory _ };
 
-    fn from(_: M) -> ClaimFault {
-        ClaimFault::Memory
+    fn from(want: M) -> ClaimFault {
+        ClaimFault::Memory(want.memory())
     }
 }

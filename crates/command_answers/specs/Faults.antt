@@ -28,7 +28,7 @@ status_of (Gates limit) = 7
 status_of (Circuit refusal) = 8
 status_of Read = 9
 status_of Write = 10
-status_of Memory = 11
+status_of (Memory _) = 11
 status_of (BadBits word) = 12
 status_of (FewLines lines need) = 13
 status_of (WideGate number) = 14
@@ -134,7 +134,7 @@ line_of Unsettled = codes "revc: circuit is not settled by sums\n"
 line_of NoPart = codes "revc: no parting line\n"
 line_of Read = codes "revc: read fault\n"
 line_of Write = codes "revc: write fault\n"
-line_of Memory = codes "revc: out of memory\n"
+line_of (Memory _) = codes "revc: out of memory\n"
 
 -- the sink received the whole line, and holds nothing back, or a prefix of it where its count of faults rose
 abbrev pub Receives : Held → Held → ℕ → ℕ → List ℕ → Type 0

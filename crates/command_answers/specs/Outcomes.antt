@@ -63,7 +63,7 @@ abbrev pub IsOfText : Fault → Type 0
 IsOfText Usage = ⊥
 IsOfText Read = ⊥
 IsOfText Write = ⊥
-IsOfText Memory = ⊥
+IsOfText (Memory _) = ⊥
 IsOfText fault = Unit {0}
 
 -- a fault that rests on the text, with one of these statuses

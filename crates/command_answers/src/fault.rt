@@ -2,7 +2,7 @@ ghost use Rattle.std.specs.Prelude.{◌≡◌};
 ghost use Rattle.command_answers.specs.declared.fault.Fault.TheVariants as faults;
 ghost use Rattle.command_answers.specs.Faults.{kind_text, status_of};
 
-use revc_base::{Bits, Place, WantOfMemory};
+use revc_base::{Bits, Memory, Place, WantOfMemory};
 use revs_terms::Cause;
 use thiserror::Error;
 
@@ -56,7 +56,7 @@ pub enum Fault {
     #[error("write fault")]
     Write,
     #[error("out of memory")]
-    Memory,
+    Memory(Memory),
 }
 
 /// Why a program text is refused.
@@ -115,7 +115,7 @@ impl Fault {
             Fault::Circuit(_) => 8,
             Fault::Read => 9,
             Fault::Write => 10,
-            Fault::Memory => 11,
+            Fault::Memory(_) => 11,
             Fault::BadBits { .. } => 12,
             Fault::FewLines { .. } => 13,
             Fault::WideGate { .. } => 14,
@@ -146,9 +146,9 @@ impl FaultKind {
 }
 
 impl<M: WantOfMemory> From<M> for Fault {
-    ghost from_gives = { λ _ e. e ≡ faults.Memory };
+    ghost from_gives = { λ _ e. e ≡ faults.Memory _ };
 
-    fn from(_: M) -> Fault {
-        Fault::Memory
+    fn from(want: M) -> Fault {
+        Fault::Memory(want.memory())
     }
 }

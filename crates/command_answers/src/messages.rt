@@ -92,7 +92,7 @@ impl Piece for Line<'_> {
             Fault::NoPart => b"revc: no parting line\n".put(buffer, out),
             Fault::Read => b"revc: read fault\n".put(buffer, out),
             Fault::Write => b"revc: write fault\n".put(buffer, out),
-            Fault::Memory => b"revc: out of memory\n".put(buffer, out),
+            Fault::Memory(_) => b"revc: out of memory\n".put(buffer, out),
         }
     }
 }

@@ -53,7 +53,7 @@ fn said(
         Err(VerifyFault::Differs { line, bits: named }) => {
             (if named.bits() == bits { 4 } else { 5 }, u64::from(line))
         }
-        Err(VerifyFault::Memory) => (6, 0),
+        Err(VerifyFault::Memory(_)) => (6, 0),
     };
     Ok(said)
 }

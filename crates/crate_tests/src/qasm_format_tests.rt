@@ -206,7 +206,7 @@ fn refusal(alloc: Global, text: &[u8]) -> Option<(Place, bool)>
     match read(alloc, text) {
         Err(QasmFault::Token { at }) => Some((at, false)),
         Err(QasmFault::Limit { at }) => Some((at, true)),
-        Ok(_) | Err(QasmFault::Memory) => None,
+        Ok(_) | Err(QasmFault::Memory(_)) => None,
     }
 }
 

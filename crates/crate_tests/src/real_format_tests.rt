@@ -247,7 +247,7 @@ fn refusal(alloc: Global, text: &[u8]) -> Option<(u32, bool)>
     match read(alloc, text) {
         Err(RealFault::Line { number }) => Some((number, false)),
         Err(RealFault::Limit { number }) => Some((number, true)),
-        Ok(_) | Err(RealFault::Memory) => None,
+        Ok(_) | Err(RealFault::Memory(_)) => None,
     }
 }
 

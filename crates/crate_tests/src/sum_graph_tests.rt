@@ -7,9 +7,8 @@ use crate::dependency_graph_tests::push_all;
 use bit_sums::Sum;
 use claim_check::{Settled, settle};
 use dependency_graph::{Base, Graph};
-use revc_base::Memory;
 use revs_tape::{Entry, Ref, Tape};
-use std::alloc::Global;
+use std::alloc::{AllocError, Global};
 use std::process::Abort;
 use std::test::Fail;
 use sum_graph::SumGraph;
@@ -35,7 +34,7 @@ pub fn settled(rt: &impl Abort, alloc: Global) -> Result<Settled, Fail> {
     let tape = adder(rt, alloc)?;
     match settle(Graph::of(&tape)?, &tape, 1) {
         Ok(settled) => Ok(settled),
-        Err(_) => Err(Fail::from(Memory)),
+        Err(_) => Err(Fail::from(AllocError)),
     }
 }
 

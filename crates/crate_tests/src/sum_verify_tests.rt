@@ -52,7 +52,7 @@ fn said(
             Err(SumsFault::Lines { need }) => (1, u64::from(need)),
             Err(SumsFault::Gate { gate }) => (2, gate),
             Err(SumsFault::Unsettled) => (3, 0),
-            Err(SumsFault::Memory) => (4, 0),
+            Err(SumsFault::Memory(_)) => (4, 0),
         },
     )
 }

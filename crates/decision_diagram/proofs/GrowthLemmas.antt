@@ -116,7 +116,7 @@ MayRefuse-from f g d comes (Full nodes) cause = record {
     missing = cause.needs.missing;
   };
 }
-MayRefuse-from f g d comes Memory cause = cause
+MayRefuse-from f g d comes (Memory _) cause = cause
 
 -- the node as the newest one
 abbrev pub with_node : DiagramView → Triple → DiagramView

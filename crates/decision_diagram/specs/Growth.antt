@@ -53,7 +53,7 @@ pub record IsFullFor (f : Function) (d : DiagramView) (nodes : ℕ) : Type 0 whe
 -- the diagram may refuse f with this fault; want of memory has no cause, and comes only where there is room
 abbrev pub MayRefuse : Function → DiagramView → DdFault → Type 0
 MayRefuse f d (Full nodes) = IsFullFor f d nodes
-MayRefuse f d Memory = length d.nodes < d.limit
+MayRefuse f d (Memory _) = length d.nodes < d.limit
 
 -- A call that is asked for f: what it leaves of the diagram and adds to it, and that its answer is the number of f. Each
 -- inner node that it adds comes from f; at an answer these are nodes of f.

@@ -3,7 +3,7 @@ ghost use Rattle.std.specs.Prelude.{◌≡◌, ◌≤◌, ◌↔◌, IsTrue, ℕ
 ghost use Rattle.decision_diagram.specs.declared.node.DdFault.TheVariants as faults;
 ghost use Rattle.decision_diagram.specs.Diagrams.{side, Triple};
 
-use revc_base::WantOfMemory;
+use revc_base::{Memory, WantOfMemory};
 use std::marker::Model;
 
 /// The number of a function in the diagram that gave it. Contracts see the number itself: 0 and 1
@@ -37,14 +37,14 @@ pub enum DdFault {
     /// another one.
     Full { nodes: u32 },
     /// Want of memory.
-    Memory,
+    Memory(Memory),
 }
 
 impl<M: WantOfMemory> From<M> for DdFault {
-    ghost from_gives = { λ _ e. e ≡ faults.Memory };
+    ghost from_gives = { λ _ e. e ≡ faults.Memory _ };
 
-    fn from(_: M) -> DdFault {
-        DdFault::Memory
+    fn from(want: M) -> DdFault {
+        DdFault::Memory(want.memory())
     }
 }
 

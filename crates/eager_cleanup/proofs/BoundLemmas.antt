@@ -180,7 +180,7 @@ start_fault s b (Lines need) is = let long = length-map s.outputs plain_output i
   omega (arith, is.1, long) ∙ wanted_sum s b (omega (arith, is.0, is.1, long)),
 )
 start_fault s b Gates is = absurd is
-start_fault s b Memory is = omega (arith, is, length-map s.outputs plain_output)
+start_fault s b (Memory _) is = omega (arith, is, length-map s.outputs plain_output)
 
 -- what was begun has the lines of the inputs and outputs
 pub has_port_lines : (s : SettledView) (b : BudgetView) (j : ℕ) (used : List Base) (f : ForwardView) → IsSwept s b j used f → HasPortLines (ports_of s) b
@@ -221,7 +221,7 @@ next_fault s b j f Gates is inside fault =
     few_gates s b (gates_in f + 2)
     (omega (arith, gates, fault.1.heavy, plain_weight s f.graph j fault.1.node is.graph fault.1.is, light_forward f is.forward))
     (λ cost bounds. omega (arith, is.gates cost bounds, paid_more s cost f.lines j inside))
-next_fault s b j f Memory is inside fault = has_port_lines s b j [] f is
+next_fault s b j f (Memory _) is inside fault = has_port_lines s b j [] f is
 
 heavy_fault : (s : SettledView) (b : BudgetView) (known : List (Option Polynomial)) (user : ℕ) (base : Base) (used : List Base) (f : ForwardView)
     → AreFirstValues s user known → IsSwept s b (user + 1) used f → user < length s.nodes → IsKnownBase s.inputs user base
@@ -249,7 +249,7 @@ pub used_fault : (s : SettledView) (b : BudgetView) (known : List (Option Polyno
     → IsUseFault s known user base f fault → IsEagerFault s b fault
 used_fault s b known user base used f (Lines need) values is inside low fault = absurd fault
 used_fault s b known user base used f Gates values is inside low fault = heavy_fault s b known user base used f values is inside low fault
-used_fault s b known user base used f Memory values is inside low fault = has_port_lines s b (user + 1) used f is
+used_fault s b known user base used f (Memory _) values is inside low fault = has_port_lines s b (user + 1) used f is
 
 -- ---- the next node
 

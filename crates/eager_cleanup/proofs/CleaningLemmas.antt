@@ -96,7 +96,7 @@ toggle_back_fault s value f k Gates graph is held fault = record {
   held = held;
   heavy = omega (arith, fault.1.heavy, plain_weight s f.graph k fault.1.node graph fault.1.is, some_cost f.graph.inputs value, light_forward f is);
 }
-toggle_back_fault s value f k Memory graph is held fault = tt
+toggle_back_fault s value f k (Memory _) graph is held fault = tt
 
 -- ---- by its value
 
@@ -155,4 +155,4 @@ clear_fault s f k p cubes Gates graph is held known sum fault = record {
     cubes_cost s f k (first_work f.graph) fault.line p cubes graph known sum,
   );
 }
-clear_fault s f k p cubes Memory graph is held known sum fault = tt
+clear_fault s f k p cubes (Memory _) graph is held known sum fault = tt

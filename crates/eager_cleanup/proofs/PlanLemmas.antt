@@ -132,4 +132,4 @@ finish_fault s b f Gates is fault = record {
     gates_enough s b f m is within,
   );
 }
-finish_fault s b f Memory is fault = has_port_lines s b (length s.nodes) [] f is
+finish_fault s b f (Memory _) is fault = has_port_lines s b (length s.nodes) [] f is

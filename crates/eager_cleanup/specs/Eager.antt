@@ -35,4 +35,4 @@ pub record HasFewGates (s : SettledView) (b : BudgetView) : Type 0 where
 abbrev pub IsEagerFault : SettledView → BudgetView → PlanFault → Type 0
 IsEagerFault s b (Lines need) = HasFewLines s b × (need ≡ wanted_lines (ports_of s) b)
 IsEagerFault s b Gates = HasFewGates s b
-IsEagerFault s b Memory = HasPortLines (ports_of s) b
+IsEagerFault s b (Memory _) = HasPortLines (ports_of s) b

@@ -247,7 +247,7 @@ counted_fits limit place count now (Some more) e = elim (leb_tells (count + more
 
 -- no memory is wanted
 pub never_memory : (limit place count : ℕ) (fault : SplitFault) (more : Option ℕ)
-    → ◌≡◌ {A = Result ℕ SplitFault} (Err fault) (counted_on count more place limit) → fault ≢ Memory
+    → ◌≡◌ {A = Result ℕ SplitFault} (Err fault) (counted_on count more place limit) → fault ≢ Memory _
 never_memory limit place count fault None e is = let same : NoIdle place ≡ fault = cc in cc
 never_memory limit place count fault (Some more) e is = elim (leb_tells (count + more) limit) [
   | inl t ↦ (let no : ◌≡◌ {A = Result ℕ SplitFault} (Err fault) (Ok (count + more)) = rw t.0 at e in cc)

@@ -110,14 +110,14 @@ pub one_split : (n limit : ℕ) (gates : List GateView) (a b : Result (List Gate
 one_split n limit gates (Ok x) (Ok y) a b = ap Ok (same_Some _ _ (sym a.is ∙ b.is))
 one_split n limit gates (Ok x) (Err (NoIdle q)) a b = absurd (no_stop n limit gates x q a (idle_stops n limit gates q b))
 one_split n limit gates (Ok x) (Err Gates) a b = absurd (no_stop n limit gates x b.place a (limit_stops n limit gates b))
-one_split n limit gates (Ok x) (Err Memory) a b = absurd b
+one_split n limit gates (Ok x) (Err (Memory _)) a b = absurd b
 one_split n limit gates (Err (NoIdle p)) (Ok y) a b = absurd (no_stop n limit gates y p b (idle_stops n limit gates p a))
 one_split n limit gates (Err (NoIdle p)) (Err (NoIdle q)) a b =
     ap (λ k. Err (NoIdle k)) (one_place n limit gates p q (idle_stops n limit gates p a) (idle_stops n limit gates q b))
 one_split n limit gates (Err (NoIdle p)) (Err Gates) a b = absurd (idle_or_limit n limit gates p a b)
-one_split n limit gates (Err (NoIdle p)) (Err Memory) a b = absurd b
+one_split n limit gates (Err (NoIdle p)) (Err (Memory _)) a b = absurd b
 one_split n limit gates (Err Gates) (Ok y) a b = absurd (no_stop n limit gates y a.place b (limit_stops n limit gates a))
 one_split n limit gates (Err Gates) (Err (NoIdle q)) a b = absurd (idle_or_limit n limit gates q b a)
 one_split n limit gates (Err Gates) (Err Gates) a b = refl
-one_split n limit gates (Err Gates) (Err Memory) a b = absurd b
-one_split n limit gates (Err Memory) b one other = absurd one
+one_split n limit gates (Err Gates) (Err (Memory _)) a b = absurd b
+one_split n limit gates (Err (Memory _)) b one other = absurd one

@@ -162,4 +162,4 @@ abbrev pub IsSplit : (n limit : ℕ) → List GateView → Result (List GateView
 IsSplit n limit gates (Ok narrow) = IsSplitList n limit gates narrow
 IsSplit n limit gates (Err (NoIdle place)) = WantsIdle n limit gates place
 IsSplit n limit gates (Err Gates) = PassesLimit n limit gates
-IsSplit n limit gates (Err Memory) = ⊥
+IsSplit n limit gates (Err (Memory _)) = ⊥

@@ -14,7 +14,7 @@ pub fn decide(circuit: &Circuit, lines: u32, limit: u64) -> Result<(), SplitFaul
     requires { circuit.now.lines ≤ lines }
     ensures some { OnOk result (HasSplitList lines limit circuit.now.gates) }
     ensures none { IfErr result (λ fault. IsSplit lines limit circuit.now.gates (Err fault)) }
-    ensures exact { ¬ IsErrOf result SplitFault.Memory }
+    ensures exact { ¬ IsErrOf result (SplitFault.Memory _) }
 {
     let mut count = 0;
     let mut place = 0;

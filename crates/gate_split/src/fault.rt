@@ -2,7 +2,7 @@
 ghost use Rattle.std.specs.Prelude.{◌≡◌};
 ghost use Rattle.gate_split.specs.declared.fault.SplitFault.TheVariants as faults;
 
-use revc_base::WantOfMemory;
+use revc_base::{Memory, WantOfMemory};
 
 /// Why a circuit was not split: a wide gate uses every line, there are more gates than the limit
 /// allows, or memory was refused.
@@ -12,13 +12,13 @@ pub enum SplitFault {
     /// one.
     NoIdle { gate: u64 },
     Gates,
-    Memory,
+    Memory(Memory),
 }
 
 impl<M: WantOfMemory> From<M> for SplitFault {
-    ghost from_gives = { λ _ e. e ≡ faults.Memory };
+    ghost from_gives = { λ _ e. e ≡ faults.Memory _ };
 
-    fn from(_: M) -> SplitFault {
-        SplitFault::Memory
+    fn from(want: M) -> SplitFault {
+        SplitFault::Memory(want.memory())
     }
 }

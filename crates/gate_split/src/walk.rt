@@ -31,7 +31,7 @@ pub fn split(alloc: Global, circuit: &Circuit, lines: u32, limit: u64) -> Result
     ensures no_idle { (gate : ℕ) → IsErrOf result (SplitFault.NoIdle gate)
         → WantsIdle lines limit circuit.now.gates gate }
     ensures over { IsErrOf result SplitFault.Gates → PassesLimit lines limit circuit.now.gates }
-    ensures memory { IsErrOf result SplitFault.Memory
+    ensures memory { IsErrOf result (SplitFault.Memory _)
         → HasSplitList lines limit circuit.now.gates }
 {
     decide(circuit, lines, limit)?;
@@ -40,7 +40,7 @@ pub fn split(alloc: Global, circuit: &Circuit, lines: u32, limit: u64) -> Result
     match narrow.append(&mut gates) {
         Ok(()) => Ok(Narrow::new(narrow)),
         Err(GateFault::Full) => unreachable!(),
-        Err(GateFault::Memory) => Err(SplitFault::Memory),
+        Err(GateFault::Memory(memory)) => Err(SplitFault::Memory(memory)),
     }
 }
 

@@ -124,7 +124,7 @@ clear_fault f w old k line cubes Gates g is = record {
       subst (λ (n : ℕ). f.budget.gates < 2 * n) (sum_by-append weight_of f.gates flips)
       (over_half f.budget.gates w (weight_in (f.gates ++ flips)) g.kept.weights is));
 }
-clear_fault f w old k line cubes Memory g is = tt
+clear_fault f w old k line cubes (Memory _) g is = tt
 
 pub clear_held : (f entry : ForwardView) (k : ℕ) (cubes : List (List Literal)) → f ≡ entry → CanClear entry k cubes → is_held f.lines k ≡ true
 clear_held f entry k cubes e can = ap (λ (g : ForwardView). is_held g.lines k) e ∙ can.held

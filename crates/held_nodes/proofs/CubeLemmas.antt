@@ -39,4 +39,4 @@ pub heavier : (most : ℕ) (some more : List GateView) (fault : PlanFault) → A
     → AreTooHeavy most (weight_in (some ++ more)) fault
 heavier most some more (Lines need) is = is
 heavier most some more Gates is = omega (arith, is, sum_by-append Rattle.mct_circuit.specs.Sizes.weight_of some more)
-heavier most some more Memory is = tt
+heavier most some more (Memory _) is = tt

@@ -150,7 +150,7 @@ pub of_plan : (r : Result PlannedView PlanFault) (p : PlannedView) (Q : PlannedV
 of_plan (Ok x) p Q is q = subst Q (sym is) q
 of_plan (Err e) p Q is q = tt
 
-pub memory_refuses : (r : Result PlannedView PlanFault) (f : ForwardView) → finished_weight f ≤ f.budget.gates → IfErr r (λ fault. fault ≡ Memory)
+pub memory_refuses : (r : Result PlannedView PlanFault) (f : ForwardView) → finished_weight f ≤ f.budget.gates → IfErr r (λ fault. fault ≡ Memory _)
     → IfErr r (IsFinishFault f)
 memory_refuses (Ok x) f light is = tt
 memory_refuses (Err e) f light is = subst (IsFinishFault f) (sym is) light

@@ -114,7 +114,7 @@ module _ (f : ForwardView) (w : ℕ) (old new : HeapView) (k line : ℕ) (node :
   pub taken_fault : (fault : PlanFault) → IsWeightFault w (weight_in f.gates + toggle_weight node) fault → IsToggleFault f k fault
   taken_fault (Lines need) is = absurd is
   taken_fault Gates is = (taken_room, too_heavy f w k old node t.kept t.node_is is)
-  taken_fault Memory is = (taken_room, not_heavy f w k old node t.kept t.node_is is)
+  taken_fault (Memory _) is = (taken_room, not_heavy f w k old node t.kept t.node_is is)
 
   pub taken_place : k < length f.lines
   taken_place = node_place f k node t.kept.forward t.node_is
@@ -194,7 +194,7 @@ module _ (f : ForwardView) (w : ℕ) (old : HeapView) (k line : ℕ) (g : Gives 
   given_fault node (Lines need) at is = absurd is
   given_fault node Gates at is =
       ((λ full. false≢true (sym full.free ∙ ap (λ (x : Option ℕ). is_some x) g.own)), too_heavy f w k old node g.kept at is)
-  given_fault node Memory at is =
+  given_fault node (Memory _) at is =
       ((λ full. false≢true (sym full.free ∙ ap (λ (x : Option ℕ). is_some x) g.own)), not_heavy f w k old node g.kept at is)
 
   pub given_adds : (node : SumView) → HasProducts node → IsReadyNode f.graph f.lines k → slice_get f.graph.nodes k ≡ Some node

@@ -71,7 +71,7 @@ nothing_held s b lines =
 abbrev pub IsStartFault : SumGraphView → BudgetView → PlanFault → Type 0
 IsStartFault s b (Lines need) = (b.lines < need) × (need ≡ first_work s + b.borrow)
 IsStartFault s b Gates = ⊥
-IsStartFault s b Memory = first_work s + b.borrow ≤ b.lines
+IsStartFault s b (Memory _) = first_work s + b.borrow ≤ b.lines
 
 -- ---- a toggle
 
@@ -116,7 +116,7 @@ pub record IsToggleTooHeavy (f : ForwardView) (k : ℕ) : Type 0 where
 abbrev pub IsToggleFault : ForwardView → ℕ → PlanFault → Type 0
 IsToggleFault f k (Lines need) = HasNoLine f k × (need ≡ f.budget.lines + 1)
 IsToggleFault f k Gates = (¬ HasNoLine f k) × IsToggleTooHeavy f k
-IsToggleFault f k Memory = (¬ HasNoLine f k) × (¬ IsToggleTooHeavy f k)
+IsToggleFault f k (Memory _) = (¬ HasNoLine f k) × (¬ IsToggleTooHeavy f k)
 
 -- ---- a clearing by cubes
 
@@ -144,7 +144,7 @@ pub record IsClearTooHeavy (f : ForwardView) (k : ℕ) (cubes : List (List Liter
 abbrev pub IsClearFault : ForwardView → ℕ → List (List Literal) → PlanFault → Type 0
 IsClearFault f k cubes (Lines need) = ⊥
 IsClearFault f k cubes Gates = IsClearTooHeavy f k cubes
-IsClearFault f k cubes Memory = ⊤
+IsClearFault f k cubes (Memory _) = ⊤
 
 -- ---- the finish
 
@@ -181,4 +181,4 @@ finished_weight f = 2 * weight_in f.gates + sum_by toggle_weight f.graph.outputs
 abbrev pub IsFinishFault : ForwardView → PlanFault → Type 0
 IsFinishFault f (Lines need) = ⊥
 IsFinishFault f Gates = f.budget.gates < finished_weight f
-IsFinishFault f Memory = finished_weight f ≤ f.budget.gates
+IsFinishFault f (Memory _) = finished_weight f ≤ f.budget.gates

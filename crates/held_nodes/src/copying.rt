@@ -85,7 +85,7 @@ pub fn plan_of(
       outputs = length graph.now.outputs;
       work = work;
     }) }
-    ensures refused { IfErr result (λ fault. fault ≡ PlanFault.Memory) }
+    ensures refused { IfErr result (λ fault. fault ≡ PlanFault.Memory _) }
 {
     let mut circuit = Circuit::new(*gates.allocator(), first_work(graph) + work, limit);
     append_all(&mut circuit, &mut gates, &mut copies)?;
@@ -121,7 +121,7 @@ fn append(circuit: &mut Circuit, gates: &mut Vec<Gate>) -> Result<(), Memory>
 {
     match circuit.append(gates) {
         Ok(()) => Ok(()),
-        Err(GateFault::Memory) => Err(Memory),
+        Err(GateFault::Memory(memory)) => Err(memory),
         Err(GateFault::Full) => unreachable!(),
     }
 }
@@ -135,7 +135,7 @@ fn mirror(circuit: &mut Circuit, count: u64) -> Result<(), Memory>
 {
     match circuit.append_reversed(count) {
         Ok(()) => Ok(()),
-        Err(GateFault::Memory) => Err(Memory),
+        Err(GateFault::Memory(memory)) => Err(memory),
         Err(GateFault::Full) => unreachable!(),
     }
 }

@@ -33,7 +33,7 @@ pub fn plan(alloc: Global, graph: &SumGraph, budget: &Budget) -> Result<Option<P
     match steps(alloc, graph, budget) {
         Ok(steps) => follow(alloc, graph, budget, &steps),
         Err(Stop::Lost) => Ok(None),
-        Err(Stop::Memory) => Err(Memory),
+        Err(Stop::Memory(memory)) => Err(memory),
     }
 }
 
@@ -88,7 +88,7 @@ fn shallowest<'t>(alloc: Global, table: &'t Table, budget: &Budget) -> Drafted<'
     for depth in 0..DEPTHS {
         match drafted(alloc, table, budget, Order::Pebbled { depth }) {
             Ok(draft) => return Ok(draft),
-            Err(PlanFault::Memory) => return Err(PlanFault::Memory),
+            Err(PlanFault::Memory(memory)) => return Err(PlanFault::Memory(memory)),
             Err(_) => {}
         }
     }
@@ -99,7 +99,7 @@ fn shallowest<'t>(alloc: Global, table: &'t Table, budget: &Budget) -> Drafted<'
 fn better<'t>(found: Option<Draft<'t>>, tried: Drafted<'t>) -> Result<Option<Draft<'t>>, Memory> {
     let draft = match tried {
         Ok(draft) => draft,
-        Err(PlanFault::Memory) => return Err(Memory),
+        Err(PlanFault::Memory(memory)) => return Err(memory),
         Err(_) => return Ok(found),
     };
     let Some(best) = found else {

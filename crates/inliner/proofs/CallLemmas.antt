@@ -408,7 +408,7 @@ item_stuck old mid left env name t v fault is h g says =
 
 pub named_goes : (m : Machine) (left env : ℕ) (name : Name) (t : Tree) (r : Result Value RunFault) → t ≡ used name → IsMachine m
     → IfOk r (λ v. value_in (envs_of m) v ≡ value_at (env_in (envs_of m) env) name.back) → IfOk r (λ v. IsValue (length m.bindings.items) v)
-    → IfErr r (λ fault. fault ≡ faults.Memory) → Follows (Goes m m) (term_of no_bits (run_of no_bits left) (env_in (envs_of m) env) t (state_of m)) r
+    → IfErr r (λ fault. fault ≡ faults.Memory _) → Follows (Goes m m) (term_of no_bits (run_of no_bits left) (env_in (envs_of m) env) t (state_of m)) r
 named_goes m left env name t (Ok v) cut is e made s = record {
   does = ends_here (value_in (envs_of m) v) (begun m _ _ refl is)
       (ap (λ (x : Tree). term_of no_bits (run_of no_bits left) (env_in (envs_of m) env) x (state_of m)) cut

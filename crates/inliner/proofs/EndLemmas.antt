@@ -165,7 +165,7 @@ at_default (y ∷ ys) (suc i) d h =
 
 stuck_on_all : (params : List Param) (body : Tree) (fault : RunFault) → IsStuckAs fault (run_without_bits params body) → IsStuckOnAll params body fault
 stuck_on_all params body (faults.Stuck cause at) e = (same_for_all params body).0 cause at e
-stuck_on_all params body faults.Memory e = tt
+stuck_on_all params body (faults.Memory _) e = tt
 
 pub refused : (params : List Param) (body : Tree) (fault : RunFault) → Says fault (run_without_bits params body) → IsRefused params body fault
 refused params body fault s = record { stuck = stuck_on_all params body fault s.stuck }

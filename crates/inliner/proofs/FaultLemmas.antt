@@ -11,7 +11,7 @@ goes_on o a s next r e f = ap (λ (x : Outcome (Unit {0}) _). after x next) e �
 
 stuck_first : {A C : Type 0} (fault : RunFault) (o : Outcome (Unit {0}) A) (next : A → State (Unit {0}) → Outcome (Unit {0}) C)
     → IsStuckAs fault o → IsStuckAs fault (after o next)
-stuck_first faults.Memory o next e = tt
+stuck_first (faults.Memory _) o next e = tt
 stuck_first (faults.Stuck cause at) o next e = ap (λ (x : Outcome (Unit {0}) _). after x next) e
 
 -- stuck at the first step
@@ -29,5 +29,5 @@ pub said_next : {A C : Type 0} (fault : RunFault) (o : Outcome (Unit {0}) A) (a 
 said_next fault o a s next e says = said_same fault (after o next) (next a s) (ap (λ (x : Outcome (Unit {0}) _). after x next) e) says
 
 -- Want of memory says nothing of the run.
-pub memory_says : {A : Type 0} (fault : RunFault) (o : Outcome (Unit {0}) A) → fault ≡ faults.Memory → Says fault o
+pub memory_says : {A : Type 0} (fault : RunFault) (o : Outcome (Unit {0}) A) → fault ≡ faults.Memory _ → Says fault o
 memory_says fault o e = rw e (record { stuck = tt })

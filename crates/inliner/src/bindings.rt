@@ -44,7 +44,7 @@ impl<'t> Machine<'t> {
         ensures ok { IfOk result (λ made. BindsOne self.old self.new
             (went (bound (value_of self.old value.entry) (env_of self.old env)) (state_of self.old))
             made) }
-        ensures err { IfErr result (λ fault. fault ≡ RunFault.Memory) }
+        ensures err { IfErr result (λ fault. fault ≡ RunFault.Memory _) }
     {
         let leap = leap_from(&self.bindings, env);
         self.bindings.push(Binding {
@@ -79,7 +79,7 @@ impl<'t> Machine<'t> {
         ensures ok { IfOk result (λ value. value_of self.now value ≡ value_at
             (env_of self.now env) back) }
         ensures made { IfOk result (λ value. IsValue (length self.now.bindings.items) value) }
-        ensures err { IfErr result (λ fault. fault ≡ RunFault.Memory) }
+        ensures err { IfErr result (λ fault. fault ≡ RunFault.Memory _) }
     {
         let there = self.outward(env, back);
         if there == 0 {

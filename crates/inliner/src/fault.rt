@@ -1,7 +1,7 @@
 ghost use Rattle.std.specs.Prelude.{◌≡◌};
 ghost use Rattle.inliner.specs.declared.fault.RunFault.TheVariants as faults;
 
-use revc_base::{Place, WantOfMemory};
+use revc_base::{Memory, Place, WantOfMemory};
 use revs_terms::Cause;
 
 /// Why a program has no tape: its run is stuck, or memory is wanting.
@@ -10,7 +10,7 @@ pub enum RunFault {
     /// The run is stuck for this cause, at the place of a term or part.
     Stuck { cause: Cause, at: Place },
     /// Want of memory.
-    Memory,
+    Memory(Memory),
 }
 
 impl RunFault {
@@ -23,9 +23,9 @@ impl RunFault {
 }
 
 impl<M: WantOfMemory> From<M> for RunFault {
-    ghost from_gives = { λ _ e. e ≡ faults.Memory };
+    ghost from_gives = { λ _ e. e ≡ faults.Memory _ };
 
-    fn from(_: M) -> RunFault {
-        RunFault::Memory
+    fn from(want: M) -> RunFault {
+        RunFault::Memory(want.memory())
     }
 }

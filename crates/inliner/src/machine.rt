@@ -84,7 +84,7 @@ impl<'t> Machine<'t> {
         ensures room { OnOk result (LeavesRoom self.old self.new) }
         ensures err { IfErr result (λ fault. Says fault
             (worked no_bits 1 (place_of (tree_of term.now)) (state_of self.old))) }
-        ensures exact { ¬ IsErrOf result RunFault.Memory }
+        ensures exact { ¬ IsErrOf result (RunFault.Memory _) }
     {
         if self.work >= MOST_WORK {
             return Err(RunFault::stuck(Cause::Work, term.place()));
@@ -101,7 +101,7 @@ impl<'t> Machine<'t> {
         ensures added { OnOk result (AddsWork count self.old self.new) }
         ensures err { IfErr result (λ fault. Says fault
             (worked no_bits count at (state_of self.old))) }
-        ensures exact { ¬ IsErrOf result RunFault.Memory }
+        ensures exact { ¬ IsErrOf result (RunFault.Memory _) }
     {
         if count > (MOST_WORK - self.work) as usize {
             return Err(RunFault::stuck(Cause::Work, at));
@@ -119,7 +119,7 @@ impl<'t> Machine<'t> {
             (length self.now.tape.entries) made) }
         ensures err { IfErr result (λ fault. Says fault
             (read no_bits location (place_of (tree_of term.now)) (state_of self.now))) }
-        ensures exact { ¬ IsErrOf result RunFault.Memory }
+        ensures exact { ¬ IsErrOf result (RunFault.Memory _) }
     {
         match self.store.get(location as usize) {
             Some(Some(made)) => Ok(*made),
@@ -136,7 +136,7 @@ impl<'t> Machine<'t> {
             (written no_bits entry tt at (state_of self.old)) made) }
         ensures err { IfErr result (λ fault. Says fault
             (written no_bits entry tt at (state_of self.old))) }
-        ensures memory { IsErrOf result RunFault.Memory
+        ensures memory { IsErrOf result (RunFault.Memory _)
             → length self.old.tape.entries < MOST_WRITES }
     {
         if self.tape.len() as usize >= MOST_WRITES {

@@ -25,7 +25,7 @@ impl<'t> Machine<'t> {
         ensures fits { IfOk result (λ sum. FitsSigned w32 sum) }
         ensures err { IfErr result (λ fault. Says fault
             (number_of no_bits (env_of self.old env) number.now (state_of self.old))) }
-        ensures exact { ¬ IsErrOf result RunFault.Memory }
+        ensures exact { ¬ IsErrOf result (RunFault.Memory _) }
     {
         match &number.steps {
             Steps::Digits(value, at) => self.summed(env, 0, false, &Unit::Digits(*value, *at)),
@@ -45,7 +45,7 @@ impl<'t> Machine<'t> {
         ensures fits { IfOk result (λ sum. FitsSigned w32 sum) }
         ensures err { IfErr result (λ fault. Says fault
             (more_of no_bits (env_of self.old env) first steps.now (state_of self.old))) }
-        ensures exact { ¬ IsErrOf result RunFault.Memory }
+        ensures exact { ¬ IsErrOf result (RunFault.Memory _) }
     {
         let mut sum = first;
         for step in steps {
@@ -66,7 +66,7 @@ impl<'t> Machine<'t> {
         ensures err { IfErr result (λ fault. Says fault
             (summed no_bits (env_of self.now env) sum (record { minus = minus; unit = unit.now })
             (state_of self.now))) }
-        ensures exact { ¬ IsErrOf result RunFault.Memory }
+        ensures exact { ¬ IsErrOf result (RunFault.Memory _) }
     {
         let value = self.unit(env, unit)?;
         match narrowed(sum_of(minus, sum, value)) {
@@ -85,7 +85,7 @@ impl<'t> Machine<'t> {
         ensures short { IfOk result (λ value. IsShort value) }
         ensures err { IfErr result (λ fault. Says fault
             (unit_of no_bits (env_of self.now env) unit.now (state_of self.now))) }
-        ensures exact { ¬ IsErrOf result RunFault.Memory }
+        ensures exact { ¬ IsErrOf result (RunFault.Memory _) }
     {
         match unit {
             Unit::Digits(value, _) => Ok(i64::from(*value)),

@@ -39,7 +39,8 @@ impl<'t> Machine<'t> {
         requires { IsMachine self.old }
         ensures run { Follows (Goes self.old self.new)
             (short_register no_bits locations.items at (state_of self.old)) result }
-        ensures memory { IsErrOf result RunFault.Memory → length locations.items ≤ MOST_PLACES }
+        ensures memory { IsErrOf result (RunFault.Memory _)
+            → length locations.items ≤ MOST_PLACES }
     {
         if locations.len() > MOST_PLACES {
             return Err(RunFault::stuck(Cause::Length, at));
@@ -54,7 +55,8 @@ impl<'t> Machine<'t> {
         ensures run { Follows (Goes self.old self.new)
             (rotated no_bits k (place_of (tree_of operand.now)) at (value_of self.old value.now)
             (state_of self.old)) result }
-        ensures memory { IsErrOf result RunFault.Memory → IsSome (register_of (seen value.now)) }
+        ensures memory { IsErrOf result (RunFault.Memory _)
+            → IsSome (register_of (seen value.now)) }
     {
         let Some(places) = register(value) else {
             return Err(RunFault::stuck(Cause::NotRegister, operand.place()));
@@ -87,7 +89,7 @@ impl<'t> Machine<'t> {
         ensures run { Follows (Goes self.old self.new)
             (appended no_bits (place_of (tree_of first.now)) (place_of (tree_of second.now)) at
             (value_of self.old x.now) (value_of self.old y.now) (state_of self.old)) result }
-        ensures memory { IsErrOf result RunFault.Memory
+        ensures memory { IsErrOf result (RunFault.Memory _)
             → IsSome (register_of (seen x.now)) × IsSome (register_of (seen y.now)) }
     {
         let Some(front) = register(x) else {
@@ -145,7 +147,7 @@ impl<'t> Machine<'t> {
         ensures run { Follows (Goes self.old self.new)
             (part_of no_bits (env_of self.old env) at (Part.Index i.now at)
             (value_of self.old value.now) (state_of self.old)) result }
-        ensures exact { ¬ IsErrOf result RunFault.Memory }
+        ensures exact { ¬ IsErrOf result (RunFault.Memory _) }
     {
         let Some(places) = register(value) else {
             return Err(RunFault::stuck(Cause::NotRegister, at));
@@ -172,7 +174,8 @@ impl<'t> Machine<'t> {
         ensures run { Follows (Goes self.old self.new)
             (part_of no_bits (env_of self.old env) whole (Part.Slice i.now j.now at)
             (value_of self.old value.now) (state_of self.old)) result }
-        ensures memory { IsErrOf result RunFault.Memory → IsSome (register_of (seen value.now)) }
+        ensures memory { IsErrOf result (RunFault.Memory _)
+            → IsSome (register_of (seen value.now)) }
     {
         let Some(places) = register(value) else {
             return Err(RunFault::stuck(Cause::NotRegister, at));
@@ -242,6 +245,6 @@ fn shape_fault(fault: ShapeFault, at: Place) -> RunFault
         ShapeFault::Slice => RunFault::stuck(Cause::Slice, at),
         ShapeFault::Rotate => RunFault::stuck(Cause::Rotate, at),
         ShapeFault::Length => RunFault::stuck(Cause::Length, at),
-        ShapeFault::Memory => RunFault::Memory,
+        ShapeFault::Memory(memory) => RunFault::Memory(memory),
     }
 }

@@ -479,7 +479,7 @@ impl<'t> Machine<'t> {
 fn bit_at(value: &Value, term: &Term) -> Result<u32, RunFault>
     ensures ok { IfOk result (λ location. IsBitAt value.now location) }
     ensures err { IfErr result (λ fault. NoBitAt value.now (place_of (tree_of term.now)) fault) }
-    ensures exact { ¬ IsErrOf result RunFault.Memory }
+    ensures exact { ¬ IsErrOf result (RunFault.Memory _) }
 {
     match bit(value) {
         Some(location) => Ok(location),

@@ -32,7 +32,7 @@ impl<'t> Machine<'t> {
         ensures run { Follows (Goes self.old self.new)
             (claim_on no_bits kind location (place_of (tree_of operand.now)) at (state_of self.old))
             result }
-        ensures memory { IsErrOf result RunFault.Memory
+        ensures memory { IsErrOf result (RunFault.Memory _)
             → length self.old.tape.claims < MOST_CLAIMS }
     {
         let of = self.read(location, operand)?;
@@ -52,7 +52,7 @@ impl<'t> Machine<'t> {
         ensures run { Follows (Goes self.old self.new)
             (assigned no_bits to from (place_of (tree_of left.now)) (place_of (tree_of right.now))
             (state_of self.old)) result }
-        ensures exact { ¬ IsErrOf result RunFault.Memory }
+        ensures exact { ¬ IsErrOf result (RunFault.Memory _) }
     {
         self.read(to, left)?;
         let made = self.read(from, right)?;

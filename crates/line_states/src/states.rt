@@ -255,7 +255,7 @@ fn append(circuit: &mut Circuit, gates: &mut Vec<Gate>) -> Result<(), Memory>
 {
     match circuit.append(gates) {
         Ok(()) => Ok(()),
-        Err(GateFault::Memory) => Err(Memory),
+        Err(GateFault::Memory(memory)) => Err(memory),
         Err(GateFault::Full) => unreachable!(),
     }
 }

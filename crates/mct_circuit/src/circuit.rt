@@ -20,14 +20,14 @@ use std::mem;
 #[derive(Clone, Copy, Debug, PartialEq, Eq)]
 pub enum GateFault {
     Full,
-    Memory,
+    Memory(Memory),
 }
 
 impl<M: WantOfMemory> From<M> for GateFault {
-    ghost from_gives = { λ _ e. e ≡ faults.Memory };
+    ghost from_gives = { λ _ e. e ≡ faults.Memory _ };
 
-    fn from(_: M) -> GateFault {
-        GateFault::Memory
+    fn from(want: M) -> GateFault {
+        GateFault::Memory(want.memory())
     }
 }
 

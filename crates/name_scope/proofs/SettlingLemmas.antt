@@ -16,7 +16,7 @@ pub params_refused : (r : Result (Unit {0}) ScopeFault) (f : ScopeFault) (params
 params_refused (Ok done) f params tree now e d = absurd e
 params_refused (Err g) (fault.Unbound at) params tree now e d = absurd d
 params_refused (Err g) (fault.TwoParams at) params tree now e d = rw e (rw (d, scope_verdict) refl)
-params_refused (Err g) fault.Memory params tree now e d = rw e tt
+params_refused (Err g) (fault.Memory _) params tree now e d = rw e tt
 
 -- what the call for the body says, behind different parameters
 pub body_settled : (r : Result (Unit {0}) ScopeFault) (params : List Param) (tree now : Tree) (after : List (List ℕ)) → second_of [] params ≡ None
@@ -24,7 +24,7 @@ pub body_settled : (r : Result (Unit {0}) ScopeFault) (params : List Param) (tre
 body_settled (Ok done) params tree now after d b = (d, b.0)
 body_settled (Err (fault.Unbound at)) params tree now after d u = rw (d, scope_verdict) (rw u refl)
 body_settled (Err (fault.TwoParams at)) params tree now after d u = absurd u
-body_settled (Err fault.Memory) params tree now after d u = tt
+body_settled (Err (fault.Memory _)) params tree now after d u = tt
 
 -- names that cannot be bound
 pub names_refused : (r : Result program.Scoped ScopeFault) (f : ScopeFault) (params : List Param) (tree now : Tree) → IsErrAnd r (λ e. e ≡ f)
@@ -32,7 +32,7 @@ pub names_refused : (r : Result program.Scoped ScopeFault) (f : ScopeFault) (par
 names_refused (Ok done) f params tree now e s = absurd e
 names_refused (Err g) (fault.Unbound at) params tree now e s = rw e s
 names_refused (Err g) (fault.TwoParams at) params tree now e s = rw e s
-names_refused (Err g) fault.Memory params tree now e s = rw e tt
+names_refused (Err g) (fault.Memory _) params tree now e s = rw e tt
 
 -- a body whose names are bound
 pub body_bound : (params : List Param) (tree now : Tree) → second_of [] params ≡ None → scoped_tree (params_scope params) tree ≡ scoped now

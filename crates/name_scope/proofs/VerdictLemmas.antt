@@ -21,14 +21,14 @@ pub part_binds : {A C : Type 0} (f : A → C) (r : Result (Unit {0}) ScopeFault)
 part_binds f (Ok done) v a s n e = (rw e.0 refl, e.1)
 part_binds f (Err (fault.Unbound at)) v a s n e = rw e refl
 part_binds f (Err (fault.TwoParams at)) v a s n e = e
-part_binds f (Err fault.Memory) v a s n e = tt
+part_binds f (Err (fault.Memory _)) v a s n e = tt
 
 pub run_binds : (r : Result (Unit {0}) ScopeFault) (old term : Tree) (s n : List (List ℕ)) → BindsIn r (scoped_tree s old) term s n
     → Binds r (scoped_items s (item (run old) no_items)) (item (run term) no_items, n)
 run_binds (Ok done) old term s n e = rw e.0 (rw e.1 refl)
 run_binds (Err (fault.Unbound at)) old term s n e = rw e refl
 run_binds (Err (fault.TwoParams at)) old term s n e = e
-run_binds (Err fault.Memory) old term s n e = tt
+run_binds (Err (fault.Memory _)) old term s n e = tt
 
 onward : {A B C : Type 0} (x : Scoped A) (f : A → B) (g : B → C)
     → and_then x (λ a. scoped (g (f a))) ≡ and_then (and_then x (λ a. scoped (f a))) (λ b. scoped (g b))
@@ -93,13 +93,13 @@ pub steps_bind : (r : Result (Unit {0}) ScopeFault) (s : List (List ℕ)) (a b :
 steps_bind (Ok done) s a b ps qs e h = rw e (rw h refl)
 steps_bind (Err (fault.Unbound at)) s a b ps qs e h = rw e (rw h refl)
 steps_bind (Err (fault.TwoParams at)) s a b ps qs e h = h
-steps_bind (Err fault.Memory) s a b ps qs e h = tt
+steps_bind (Err (fault.Memory _)) s a b ps qs e h = tt
 
 -- a part whose refusal is passed on
 pub first_is_unbound : {A C : Type 0} (next : A → Scoped C) (f : ScopeFault) (v : Scoped A) → IsUnbound f v → IsUnbound f (and_then v next)
 first_is_unbound next (fault.Unbound at) v e = rw e refl
 first_is_unbound next (fault.TwoParams at) v e = e
-first_is_unbound next fault.Memory v e = tt
+first_is_unbound next (fault.Memory _) v e = tt
 
 pub items_bound : {A : Type 0} (v : Scoped A) (a : A) (s m n : List (List ℕ)) (name : List ℕ) (is js : ItemTrees) → v ≡ scoped a → m ≡ name ∷ s
     → scoped_items m is ≡ scoped (js, n) → in_turn v (alone (scoped_items (name ∷ s) is)) ≡ scoped (a, js)
@@ -221,7 +221,7 @@ part_is_unbound : {A C : Type 0} (g : A → C) (f : ScopeFault) (v : Scoped A) �
 part_is_unbound g (fault.Unbound at) (unbound from) h = cc
 part_is_unbound g (fault.Unbound at) (scoped a) h = cc
 part_is_unbound g (fault.TwoParams at) v h = h
-part_is_unbound g fault.Memory v h = tt
+part_is_unbound g (fault.Memory _) v h = tt
 
 item_is_unbound : (m : List (List ℕ)) (i : ItemTree) (rest : ItemTrees) (f : ScopeFault) → IsUnbound f (scoped_items m (item i no_items))
     → IsUnbound f (scoped_items m (item i rest))

@@ -13,4 +13,4 @@ Answers (Ok scoped) params verdict = (scoped.program.params.items ≡ params) ×
     (verdict ≡ bound_as (tree_of scoped.program.body))
 Answers (Err (fault.Unbound at)) params verdict = verdict ≡ unbound_name at
 Answers (Err (fault.TwoParams at)) params verdict = verdict ≡ two_params at
-Answers (Err fault.Memory) params verdict = Unit {0}
+Answers (Err (fault.Memory _)) params verdict = Unit {0}

@@ -11,7 +11,7 @@ ghost use Rattle.name_scope.specs.inside.Verdicts.{Settles};
 use crate::Scoped;
 use crate::names::Names;
 use crate::terms::{bind_params, bind_term};
-use revc_base::{Place, WantOfMemory};
+use revc_base::{Memory, Place, WantOfMemory};
 use revs_terms::{Param, Program, Term};
 use std::alloc::Global;
 
@@ -23,14 +23,14 @@ pub enum ScopeFault {
     /// The parameter whose name stands here has the name of one before it.
     TwoParams(Place),
     /// There was no memory.
-    Memory,
+    Memory(Memory),
 }
 
 impl<M: WantOfMemory> From<M> for ScopeFault {
-    ghost from_gives = { λ _ e. e ≡ faults.Memory };
+    ghost from_gives = { λ _ e. e ≡ faults.Memory _ };
 
-    fn from(_: M) -> ScopeFault {
-        ScopeFault::Memory
+    fn from(want: M) -> ScopeFault {
+        ScopeFault::Memory(want.memory())
     }
 }
 

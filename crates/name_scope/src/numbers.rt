@@ -13,7 +13,7 @@ use revs_terms::{Name, Num, Part, Step, Steps, Sum, Unit};
 pub fn bind_name(names: &Names, name: &mut Name) -> Result<(), ScopeFault>
     requires { length names.now < 2 ^ 32 }
     ensures binds { Binds result (bound_name names.now name.old) name.new }
-    ensures exact { ¬ IsErrOf result ScopeFault.Memory }
+    ensures exact { ¬ IsErrOf result (ScopeFault.Memory _) }
 {
     let Some(back) = names.back(&name.text) else {
         return Err(ScopeFault::Unbound(name.at));

@@ -90,10 +90,10 @@ begun s b (Ok laid) is lean refused = record {
 }
 begun s b (Err (Lines need)) is lean refused = record { lean = Err (Lines need); is_lean = tt; refused = refused; so_far = refl }
 begun s b (Err Gates) is lean refused = record { lean = Err Gates; is_lean = tt; refused = refused; so_far = refl }
-begun s b (Err Memory) is lean refused = record { lean = Err Memory; is_lean = tt; refused = refused; so_far = refused }
+begun s b (Err (Memory _)) is lean refused = record { lean = Err (Memory _); is_lean = tt; refused = refused; so_far = refused }
 
 -- where the lean plan was refused, any other one is as compact
-alone : (s : SettledView) (b : BudgetView) (fault : PlanFault) (lean : Result LaidView PlanFault) (found : LaidView) → fault ≢ Memory → lean ≡ Err fault
+alone : (s : SettledView) (b : BudgetView) (fault : PlanFault) (lean : Result LaidView PlanFault) (found : LaidView) → fault ≢ Memory _ → lean ≡ Err fault
     → IsLaidNarrow Zero s b found → IsBestSoFar s b lean found
 alone s b fault lean found other e is = record {
   plan = is;
@@ -118,7 +118,7 @@ next s b tried found h is = record { lean = h.lean; is_lean = h.is_lean; refused
   further (Ok laid) so = kept laid so
   further (Err (Lines need)) so = alone s b (Lines need) h.lean found (λ e. absurd (cc)) so is
   further (Err Gates) so = alone s b Gates h.lean found (λ e. absurd (cc)) so is
-  further (Err Memory) so = so
+  further (Err (Memory _)) so = so
 
 -- ---- what is laid
 
@@ -127,12 +127,12 @@ as_thrifty : (s : SettledView) (p q : LaidView) → toffoli p ≤ toffoli q → 
 as_thrifty s p q le is = record { all = omega (arith, le, is.all); lone = λ lone go. omega (arith, le, is.lone lone go) }
 
 thrifty : (s : SettledView) (b : BudgetView) (laid : LaidView) (lean : Result LaidView PlanFault) → IfOk lean (IsLean s b)
-    → IfErr lean (IsChoiceFault Lean s b) → lean ≢ Err Memory → IfOk lean (IsAsCompact laid) → (m : Measures) → IsWithin s m → LeanFits b m
+    → IfErr lean (IsChoiceFault Lean s b) → lean ≢ Err (Memory _) → IfOk lean (IsAsCompact laid) → (m : Measures) → IsWithin s m → LeanFits b m
     → IsThrifty s laid
 thrifty s b laid (Ok l) is refused enough best m within fit = as_thrifty s laid l (fewer_toffoli laid l best) (is.few m within fit)
 thrifty s b laid (Err (Lines need)) is refused enough best m within fit = absurd (refused.0.no_row m within fit)
 thrifty s b laid (Err Gates) is refused enough best m within fit = absurd (refused.no_row m within fit)
-thrifty s b laid (Err Memory) is refused enough best m within fit = absurd (enough refl)
+thrifty s b laid (Err (Memory _)) is refused enough best m within fit = absurd (enough refl)
 
 pub found_fits : (s : SettledView) (b : BudgetView) (tried : Result LaidView PlanFault) → IsCompactSearch s b tried → IfOk tried (IsLaidFor Zero s b)
 found_fits s b (Ok laid) h = h.so_far.plan.for_graph
@@ -159,9 +159,9 @@ found_refused s b (Err (Lines need)) h =
 found_refused s b (Err Gates) h =
     let was : IsChoiceFault Lean s b Gates = subst (λ (r : Result LaidView PlanFault). IfErr r (IsChoiceFault Lean s b)) h.so_far h.refused in
     record { few = was.few; no_row = was.no_row }
-found_refused s b (Err Memory) h = h.so_far
+found_refused s b (Err (Memory _)) h = h.so_far
 
 -- memory was wanting
 pub given_up : (s : SettledView) (b : BudgetView) (tried : Result LaidView PlanFault) → IsCompactSearch s b tried → HasPortLines (ports_of s) b
-    → IsCompactSearch s b (Err Memory)
+    → IsCompactSearch s b (Err (Memory _))
 given_up s b tried h room = record { lean = h.lean; is_lean = h.is_lean; refused = h.refused; so_far = room }

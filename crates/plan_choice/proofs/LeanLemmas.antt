@@ -97,21 +97,21 @@ lean_fault : (l : SumGraphView) (block : ℕ) (b : BudgetView) (tried : Result L
 lean_fault l block b (Ok laid) none h = tt
 lean_fault l block b (Err (Lines need)) none h = (none, h)
 lean_fault l block b (Err Gates) none h = (none, h)
-lean_fault l block b (Err Memory) none h = h
+lean_fault l block b (Err (Memory _)) none h = h
 
 first_fault : (l : SumGraphView) (block : ℕ) (b : BudgetView) (tried : Result LaidView PlanFault) → length l.nodes ≤ block
     → IfErr tried (sums.IsPebblingFault l block b) → IfErr tried (IsLeanFault l block b)
 first_fault l block b (Ok laid) covers h = tt
 first_fault l block b (Err (Lines need)) covers h = (λ fits. (let few = h.0 in let lines = fits.lines in omega (arith, few, lines)), h)
 first_fault l block b (Err Gates) covers h = (λ fits. (let few = h.plain covers in let gates = fits.gates in omega (arith, few, gates)), h)
-first_fault l block b (Err Memory) covers h = h
+first_fault l block b (Err (Memory _)) covers h = h
 
 none_fits : (l : SumGraphView) (block : ℕ) (b : BudgetView) (tried : Result LaidView PlanFault) → is_refusal tried ≡ true
     → IfErr tried (IsLeanFault l block b) → ¬ CoveringFits l b
 none_fits l block b (Ok laid) e h = absurd (cc)
 none_fits l block b (Err (Lines need)) e h = h.0
 none_fits l block b (Err Gates) e h = h.0
-none_fits l block b (Err Memory) e h = absurd (cc)
+none_fits l block b (Err (Memory _)) e h = absurd (cc)
 
 pub lean_begun : (s : SettledView) (l : SumGraphView) (b : BudgetView) (block : ℕ) (tried : Result LaidView PlanFault) → 1 ≤ block → length l.nodes ≤ block
     → IfOk tried (IsLaidBlock s l block b) → IfErr tried (sums.IsPebblingFault l block b) → IsLeanSearch s l b block tried
@@ -209,7 +209,7 @@ lean_refused : (s : SettledView) (l : SumGraphView) (b : BudgetView) (tried : Re
 lean_refused s l b (Ok laid) lean h = tt
 lean_refused s l b (Err (Lines need)) lean h = lines_fault s l b need lean h
 lean_refused s l b (Err Gates) lean h = gates_fault s l b lean h.0
-lean_refused s l b (Err Memory) lean h = subst (λ (n : ℕ). HasPortLines n b) (ports_same s l lean) h
+lean_refused s l b (Err (Memory _)) lean h = subst (λ (n : ℕ). HasPortLines n b) (ports_same s l lean) h
 
 -- ---- the better of two plans
 
@@ -249,10 +249,10 @@ module _ (s : SettledView) (l : SumGraphView) (b : BudgetView) where
   taken (Ok r) (Ok p) t = both_fit r p t.ready_fits t.fits
   taken (Ok r) (Err (Lines need)) t = ready_alone r t.ready_fits t.refused.0
   taken (Ok r) (Err Gates) t = ready_alone r t.ready_fits t.refused.0
-  taken (Ok r) (Err Memory) t = tt
+  taken (Ok r) (Err (Memory _)) t = tt
   taken (Err (Lines need)) pebbling t = t.fits
   taken (Err Gates) pebbling t = t.fits
-  taken (Err Memory) pebbling t = tt
+  taken (Err (Memory _)) pebbling t = tt
 
   pub best_fits : (ready pebbling : Result LaidView PlanFault) → AreTried s l b ready pebbling → IfOk (best_of ready pebbling) (IsLaidFor Any s b)
   best_fits ready pebbling t =
@@ -285,13 +285,13 @@ module _ (s : SettledView) (l : SumGraphView) (b : BudgetView) where
   better_refused ready (Ok p) refused = tt
   better_refused ready (Err (Lines need)) refused = tt
   better_refused ready (Err Gates) refused = tt
-  better_refused ready (Err Memory) refused = refused
+  better_refused ready (Err (Memory _)) refused = refused
 
   best_fault : (ready pebbling : Result LaidView PlanFault) → AreTried s l b ready pebbling → IfErr (best_of ready pebbling) (IsLeanFault l 1 b)
   best_fault (Ok r) pebbling t = better_refused r pebbling t.refused
   best_fault (Err (Lines need)) pebbling t = t.refused
   best_fault (Err Gates) pebbling t = t.refused
-  best_fault (Err Memory) pebbling t = t.ready_refused
+  best_fault (Err (Memory _)) pebbling t = t.ready_refused
 
   pub best_refused : (ready pebbling : Result LaidView PlanFault) → AreTried s l b ready pebbling
       → IfErr (best_of ready pebbling) (IsChoiceFault Lean s b)

@@ -119,7 +119,7 @@ search_fault : (s : SettledView) (block : ℕ) (b : BudgetView) (tried : Result 
 search_fault s block b (Ok laid) larger h = tt
 search_fault s block b (Err (Lines need)) larger h = (larger (few_lines s block b h.0), h)
 search_fault s block b (Err Gates) larger h = (larger (few_gates s block b h), h)
-search_fault s block b (Err Memory) larger h = h
+search_fault s block b (Err (Memory _)) larger h = h
 
 -- the first plan that was not refused
 is_pebbling : (s : SettledView) (b : BudgetView) (block power : ℕ) (tried : Result LaidView PlanFault) → block ≡ 2 ^ power
@@ -144,7 +144,7 @@ none_larger : (s : SettledView) (block : ℕ) (b : BudgetView) (tried : Result L
 none_larger s block b (Ok laid) e h = absurd (cc)
 none_larger s block b (Err (Lines need)) e h = h.0
 none_larger s block b (Err Gates) e h = h.0
-none_larger s block b (Err Memory) e h = absurd (cc)
+none_larger s block b (Err (Memory _)) e h = absurd (cc)
 
 halved_power : (s : SettledView) (b : BudgetView) (block half power : ℕ) (next : Result LaidView PlanFault) → block ≡ 2 ^ power → 1 < block
     → NoLargerFits s block b → half ≡ block / 2 → IfOk next (IsLaidFor Any s b) → IfOk next (IsLaidInBlocks s half b) → IfErr next (IsPebblingFault s half b)
@@ -177,7 +177,7 @@ pub no_eager : (s : SettledView) (b : BudgetView) (tried : Result LaidView PlanF
 no_eager s b (Ok laid) e h = absurd (cc)
 no_eager s b (Err (Lines need)) e h = record { none = λ m within fit. (let few = h.0.few m within in let lines = fit.few_lines in omega arith) }
 no_eager s b (Err Gates) e h = record { none = λ m within fit. (let few = h.few m within in let gates = fit.few_gates in omega arith) }
-no_eager s b (Err Memory) e h = absurd (cc)
+no_eager s b (Err (Memory _)) e h = absurd (cc)
 
 -- ---- the end
 
@@ -206,7 +206,7 @@ last_fault : (s : SettledView) (b : BudgetView) (tried : Result LaidView PlanFau
 last_fault s b (Ok laid) h = tt
 last_fault s b (Err (Lines need)) h = (last_lines s b h.0 h.1.0, h.1.1)
 last_fault s b (Err Gates) h = last_gates s b h.0 h.1
-last_fault s b (Err Memory) h = h
+last_fault s b (Err (Memory _)) h = h
 
 -- blocks of one node are the last
 pub ended : (s : SettledView) (b : BudgetView) (block : ℕ) (tried : Result LaidView PlanFault) → IsSearching s b block tried → block ≤ 1
@@ -283,4 +283,4 @@ auto_fault s b (Err Gates) none h = record {
   few = h.few;
   no_row = λ m within row. elim row as (λ _. ⊥) [ inl eager ↦ none.none m within eager | inr pebbling ↦ h.no_row m within pebbling ];
 }
-auto_fault s b (Err Memory) none h = h
+auto_fault s b (Err (Memory _)) none h = h

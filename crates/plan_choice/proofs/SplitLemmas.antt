@@ -74,17 +74,17 @@ many_gates n more limit gates law few roomy refused = elim (cases_lt limit (sum_
 
 -- the split of narrow gates within the budget is refused only for want of memory
 pub narrow_refused : (p : PlannedView) (b : BudgetView) (tried : Result LaidView PlanFault) → AreNarrow p.circuit.gates → IsInBudget b p
-    → IfErr tried (IsSplitFault p.circuit.gates b) → IfErr tried (λ fault. fault ≡ Memory)
+    → IfErr tried (IsSplitFault p.circuit.gates b) → IfErr tried (λ fault. fault ≡ Memory _)
 narrow_refused p b (Ok laid) narrow within h = tt
 narrow_refused p b (Err (Lines need)) narrow within h = absurd h
 narrow_refused p b (Err Gates) narrow within h = absurd (omega (arith, h, narrow_weight p.circuit.gates narrow, within.gates))
-narrow_refused p b (Err Memory) narrow within h = refl
+narrow_refused p b (Err (Memory _)) narrow within h = refl
 
 -- a refusal for want of memory, where that says no more than that the lines suffice
-pub memory_wanted : (tried : Result LaidView PlanFault) (IsFault : PlanFault → Type 0) → IsFault Memory → IfErr tried (λ fault. fault ≡ Memory)
+pub memory_wanted : (tried : Result LaidView PlanFault) (IsFault : PlanFault → Type 0) → IsFault (Memory _) → IfErr tried (λ fault. fault ≡ Memory _)
     → IfErr tried IsFault
 memory_wanted tried IsFault memory alone =
-    IfErr-weaker tried (λ (fault : PlanFault). fault ≡ Memory) IsFault (λ fault is. subst IsFault (sym is) memory) alone
+    IfErr-weaker tried (λ (fault : PlanFault). fault ≡ Memory _) IsFault (λ fault is. subst IsFault (sym is) memory) alone
 
 -- ---- the numbers of a laid plan
 
@@ -263,7 +263,7 @@ block_fault s block b (Lines need) h = (
 block_fault s block b Gates h =
     let one = one_block s b.borrow in
     settled_rows s block b.borrow (λ lines gates. b.gates < gates) (λ few. omega (arith, few, one.1)) h
-block_fault s block b Memory h = omega (arith, h, ports_same s)
+block_fault s block b (Memory _) h = omega (arith, h, ports_same s)
 
 -- gates that add some outputs add the same outputs
 pub same_outputs : (start : Start) (roles : Roles) (gates : List GateView) (value other : List Bool → List Bool)

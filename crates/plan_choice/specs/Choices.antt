@@ -112,7 +112,7 @@ pub record GatesAreFew (how : How) (s : SettledView) (b : BudgetView) : Type 0 w
 abbrev pub IsChoiceFault : How → SettledView → BudgetView → PlanFault → Type 0
 IsChoiceFault how s b (Lines need) = LinesAreFew how s b × (need ≡ wanted_lines (ports_of s) b)
 IsChoiceFault how s b Gates = GatesAreFew how s b
-IsChoiceFault how s b Memory = HasPortLines (ports_of s) b
+IsChoiceFault how s b (Memory _) = HasPortLines (ports_of s) b
 
 -- ---- what is laid
 
@@ -161,7 +161,7 @@ pub record IsCompact (s : SettledView) (b : BudgetView) (laid : LaidView) : Type
   pub lean : Result LaidView PlanFault
   pub is_lean : IfOk lean (IsLean s b)
   pub refused : IfErr lean (IsChoiceFault Lean s b)
-  pub enough : lean ≢ Err Memory
+  pub enough : lean ≢ Err (Memory _)
   pub best : IfOk lean (IsAsCompact laid)
   pub narrow : AreNarrow laid.circuit.gates
   pub few : (m : Measures) → IsWithin s m → LeanFits b m → IsThrifty s laid

@@ -24,7 +24,7 @@ abbrev pub IsLeanFault : SumGraphView → ℕ → BudgetView → PlanFault → T
 IsLeanFault l block b (Lines need) =
     (¬ CoveringFits l b) × IsPebblingFault l block b (Lines need)
 IsLeanFault l block b Gates = (¬ CoveringFits l b) × IsPebblingFault l block b Gates
-IsLeanFault l block b Memory = IsPebblingFault l block b Memory
+IsLeanFault l block b (Memory _) = IsPebblingFault l block b (Memory _)
 
 -- ---- what is laid
 

@@ -59,7 +59,7 @@ fn smaller_of(tried: Tried, found: Laid) -> Tried
 {
     match tried {
         Ok(laid) => Ok(smaller(laid, found)),
-        Err(PlanFault::Memory) => Err(PlanFault::Memory),
+        Err(PlanFault::Memory(memory)) => Err(PlanFault::Memory(memory)),
         Err(_) => Ok(found),
     }
 }

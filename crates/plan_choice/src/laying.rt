@@ -58,7 +58,7 @@ pub fn lay_narrow(alloc: Global, planned: &Planned, budget: &Budget) -> Tried
     requires within { IsInBudget budget.now planned.now }
     requires narrow { AreNarrow planned.now.circuit.gates }
     ensures ok { IfOk result (IsLaidAsIs planned.now budget.now) }
-    ensures memory { IfErr result (λ fault. fault ≡ Memory) }
+    ensures memory { IfErr result (λ fault. fault ≡ Memory _) }
 {
     // This call says that narrow gates stay as they are.
     narrow_stay();
@@ -97,7 +97,7 @@ fn lay(alloc: Global, planned: &Planned, budget: &Budget) -> Tried
             budget.borrow(),
         )),
         Err(SplitFault::Gates) => Err(PlanFault::Gates),
-        Err(SplitFault::Memory) => Err(PlanFault::Memory),
+        Err(SplitFault::Memory(memory)) => Err(PlanFault::Memory(memory)),
         Err(SplitFault::NoIdle { .. }) => unreachable!(),
     }
 }

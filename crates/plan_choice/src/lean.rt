@@ -78,7 +78,7 @@ fn best_of(ready: Tried, pebbling: Tried) -> Tried
 {
     match ready {
         Ok(ready) => better_of(ready, pebbling),
-        Err(PlanFault::Memory) => Err(PlanFault::Memory),
+        Err(PlanFault::Memory(memory)) => Err(PlanFault::Memory(memory)),
         Err(_) => pebbling,
     }
 }
@@ -89,7 +89,7 @@ fn better_of(ready: Laid, pebbling: Tried) -> Tried
 {
     match pebbling {
         Ok(pebbling) => Ok(better(ready, pebbling)),
-        Err(PlanFault::Memory) => Err(PlanFault::Memory),
+        Err(PlanFault::Memory(memory)) => Err(PlanFault::Memory(memory)),
         Err(_) => Ok(ready),
     }
 }

@@ -65,7 +65,7 @@ benched order tape laid (Ok sizes) plan are = record {
 }
 
 -- want of memory is a fault of `bench`
-pub memory_stops : {T : Type 0} (order : OrderView) (text : List ℕ) (r : Result T Fault) → IfErr r (λ fault. fault ≡ faults.Memory)
+pub memory_stops : {T : Type 0} (order : OrderView) (text : List ℕ) (r : Result T Fault) → IfErr r (λ fault. fault ≡ faults.Memory _)
     → IfErr r (IsCompileFault order text)
 memory_stops order text (Ok x) h = tt
 memory_stops order text (Err fault) h = subst (IsCompileFault order text) (sym h) tt

@@ -46,7 +46,7 @@ among_budgets order text fault cause = absurd cause
 -- nothing but a budget or memory stops a well-formed text whose program makes no claim
 pub budgets_alone : (order : OrderView) (text : List ℕ) (p : ProgramView) (fault : Fault) → IsWellFormed text p
     → ((t : TapeView) → IsTapeOf p.params p.body t → t.claims ≡ []) → IsCompileFault order text fault → IsBudgetFault order text fault
-budgets_alone order text p faults.Memory formed none h = tt
+budgets_alone order text p (faults.Memory _) formed none h = tt
 budgets_alone order text p (faults.Lines need limit) formed none h = h
 budgets_alone order text p (faults.Gates limit) formed none h = h
 budgets_alone order text p fault formed none h = absurd (never_stopped text order.nodes p fault formed none h)

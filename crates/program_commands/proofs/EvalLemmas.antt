@@ -234,7 +234,7 @@ digits_or_other (byte ∷ word) = elim (digit_or_not byte) [
 pub bits_refused : (inputs : ℕ) (word : List ℕ) (fault : BitsFault) → ((at : ℕ) → fault ≡ bits.BadDigit at → IsFirstOther word at)
     → ((at : ℕ) → IsFirstOther word at → fault ≡ bits.BadDigit at) → length word ≡ inputs → IsBitsFault inputs word (bits_fault fault)
 bits_refused inputs word (bits.BadDigit at) h named size = (refl, λ fits. none_without IsDigit word at fits.digits (h at refl))
-bits_refused inputs word bits.Memory h named size = record { digits = digits; size = size }
+bits_refused inputs word (bits.Memory _) h named size = record { digits = digits; size = size }
   where
     digits : AllByRecursion IsDigit word
     digits = elim (digits_or_other word) [
@@ -257,9 +257,9 @@ word_stops tape word fault h = record { of_text = λ text left. stops text word 
         unfit = subst (λ widths. ¬ IsInputWord (sum widths) word) left.tape_of.widths h.1;
       },
     )
-    stops text word tape faults.Memory left h = tt
+    stops text word tape (faults.Memory _) left h = tt
     stops text word tape fault left h = absurd h
 
 -- want of memory is no fault of a text
-pub memory_stops : (tape : TapeView) (word : List ℕ) → ForTexts tape (λ text. IsEvalFault text word faults.Memory)
+pub memory_stops : (tape : TapeView) (word : List ℕ) → ForTexts tape (λ text. IsEvalFault text word (faults.Memory _))
 memory_stops tape word = record { of_text = λ text left. tt }

@@ -234,12 +234,12 @@ planning_fault order text tape s (faults.Gates limit) l is no_larger h =
       no_row = λ m are. h.0.no_row m (within m are);
       limit_is = h.1;
     }
-planning_fault order text tape s faults.Memory l is no_larger h = tt
+planning_fault order text tape s (faults.Memory _) l is no_larger h = tt
 planning_fault order text tape s fault l is no_larger h = absurd h
 
 -- what stops the claims stops the file
 pub settling_fault : (order : OrderView) (text : List ℕ) (fault : Fault) → IsSettlingFault text order.nodes fault → IsCompileFault order text fault
-settling_fault order text faults.Memory h = tt
+settling_fault order text (faults.Memory _) h = tt
 settling_fault order text (faults.Lines need limit) h = absurd h
 settling_fault order text (faults.Gates limit) h = absurd h
 settling_fault order text fault h = h

@@ -173,7 +173,7 @@ passing_stops tape nodes before number at passes count place =
       );
     }
 
-pub memory_stops : (tape : TapeView) (nodes : ℕ) → ForTexts tape (λ text. IsSettlingFault text nodes faults.Memory)
+pub memory_stops : (tape : TapeView) (nodes : ℕ) → ForTexts tape (λ text. IsSettlingFault text nodes (faults.Memory _))
 memory_stops tape nodes = record { of_text = λ text left. tt }
 
 -- the fault of a claim that fails, from its number and its place

@@ -37,12 +37,12 @@ use Rattle.revs_terms.specs.Views.{ProgramView}
 
 -- ---- each layer's fault refuses the text
 
-pub lexed : (text : List ℕ) (fault : LexFault) → length text ≤ MOST_BYTES → (fault ≢ lexer.Memory → IsRefused text fault)
+pub lexed : (text : List ℕ) (fault : LexFault) → length text ≤ MOST_BYTES → (fault ≢ lexer.Memory _ → IsRefused text fault)
     → IsTextFault text (lexing_fault fault)
 lexed text (lexer.BadByte at) short h = (short, h (λ e. absurd cc))
 lexed text (lexer.LongName at) short h = (short, h (λ e. absurd cc))
 lexed text (lexer.LongNumber at) short h = (short, h (λ e. absurd cc))
-lexed text lexer.Memory short h = tt
+lexed text (lexer.Memory _) short h = tt
 
 pub parsed : (text : List ℕ) (all : List Token) (fault : ParseFault) → length text ≤ MOST_BYTES → (tokens : List Token) × IsTokens text tokens
     × (all ≡ closed text tokens)
@@ -55,19 +55,19 @@ parsed text all (parser.Syntax number at) short given s n i = (
 )
 parsed text all (parser.Nesting at) short given s n i = (short, of_tokens text all (λ tokens. IsNesting tokens at) given (n at refl))
 parsed text all (parser.Inputs at) short given s n i = (short, of_tokens text all (λ tokens. IsInputs tokens at) given (i at refl))
-parsed text all parser.Memory short given s n i = tt
+parsed text all (parser.Memory _) short given s n i = tt
 
 unbound : (p : ProgramView) (fault : ScopeFault) → Answers (Err fault) p.params (scope_verdict p.params p.body) → (text : List ℕ) → IsProgramText text p
     → IsTextFault text (scope_fault fault)
 unbound p (scopes.Unbound at) h text is = (is.short, (p, is, h))
 unbound p (scopes.TwoParams at) h text is = (is.short, (p, is, h))
-unbound p scopes.Memory h text is = tt
+unbound p (scopes.Memory _) h text is = tt
 
 stuck_fault : (p : ProgramView) (tree : Tree) (fault : RunFault) → scope_verdict p.params p.body ≡ bound_as tree → IsStuckAlways p.params tree fault
     → (text : List ℕ) → IsProgramText text p
     → IsTextFault text (run_fault fault)
 stuck_fault p tree (runs.Stuck cause at) e r text is = (is.short, (p, is, (tree, e, r.stuck)))
-stuck_fault p tree runs.Memory e r text is = tt
+stuck_fault p tree (runs.Memory _) e r text is = tt
 
 -- the run of a program with its names bound is stuck
 stuck : (text : List ℕ) (p bound : ProgramView) (fault : RunFault) → IsProgramText text p → IsBoundAs p bound → IsStuckAlways bound.params bound.body fault
@@ -113,17 +113,17 @@ scope_stops p fault h = record { of_text = unbound p fault h }
 pub stops_settling : (text : List ℕ) (nodes : ℕ) (fault : Fault) → IsTextFault text fault → IsSettlingFault text nodes fault
 stops_settling text nodes (faults.Refused (refusals.At kind at)) h = h
 stops_settling text nodes (faults.Refused refusals.TooLong) h = absurd h
-stops_settling text nodes faults.Memory h = tt
+stops_settling text nodes (faults.Memory _) h = tt
 stops_settling text nodes fault h = absurd h
 
 pub stops_compile : (order : OrderView) (text : List ℕ) (fault : Fault) → IsTextFault text fault → IsCompileFault order text fault
 stops_compile order text (faults.Refused (refusals.At kind at)) h = h
 stops_compile order text (faults.Refused refusals.TooLong) h = absurd h
-stops_compile order text faults.Memory h = tt
+stops_compile order text (faults.Memory _) h = tt
 stops_compile order text fault h = absurd h
 
 pub stops_eval : (text word : List ℕ) (fault : Fault) → IsTextFault text fault → IsEvalFault text word fault
 stops_eval text word (faults.Refused (refusals.At kind at)) h = h
 stops_eval text word (faults.Refused refusals.TooLong) h = absurd h
-stops_eval text word faults.Memory h = tt
+stops_eval text word (faults.Memory _) h = tt
 stops_eval text word fault h = absurd h

@@ -33,27 +33,27 @@ pub record IsWritable (laid : LaidView) : Type 0 where
 -- why a text leaves no tape: it is refused at a place, or there was no memory left
 abbrev pub IsTextFault : List ℕ → Fault → Type 0
 IsTextFault text (Refused (At kind at)) = IsRefusal text (At kind at)
-IsTextFault text Memory = Unit {0}
+IsTextFault text (Memory _) = Unit {0}
 IsTextFault text _ = ⊥
 
 -- why the claims of a text are not settled, or there was no memory left
 abbrev pub IsSettlingFault : List ℕ → ℕ → Fault → Type 0
-IsSettlingFault text nodes Memory = Unit {0}
+IsSettlingFault text nodes (Memory _) = Unit {0}
 IsSettlingFault text nodes fault = StopsSettling text nodes fault
 
 -- why a text has no clean plan, or there was no memory left
 abbrev pub IsCompileFault : OrderView → List ℕ → Fault → Type 0
-IsCompileFault order text Memory = Unit {0}
+IsCompileFault order text (Memory _) = Unit {0}
 IsCompileFault order text (faults.Lines need limit) = PassesLines order text need limit
 IsCompileFault order text (faults.Gates limit) = PassesGates order text limit
 IsCompileFault order text fault = StopsSettling text order.nodes fault
 
 -- why a text that is well formed and makes no claim has no clean plan, or there was no memory left
 abbrev pub IsBudgetFault : OrderView → List ℕ → Fault → Type 0
-IsBudgetFault order text Memory = Unit {0}
+IsBudgetFault order text (Memory _) = Unit {0}
 IsBudgetFault order text fault = PassesBudget order text fault
 
 -- why a text and a word give no value, or there was no memory left
 abbrev pub IsEvalFault : List ℕ → List ℕ → Fault → Type 0
-IsEvalFault text word Memory = Unit {0}
+IsEvalFault text word (Memory _) = Unit {0}
 IsEvalFault text word fault = Stops text word fault

@@ -70,7 +70,7 @@ fn measure_tape(alloc: Global, tape: &Tape, order: &Order) -> Result<BenchSizes,
 fn sizes_of(tape: &Tape, laid: &Laid) -> Result<BenchSizes, Fault>
     ensures ok { IfOk result
         (λ sizes. AreSizesOf tape.now (roles_of laid.now) laid.now.circuit.gates sizes) }
-    ensures err { IfErr result (λ fault. fault ≡ Fault.Memory) }
+    ensures err { IfErr result (λ fault. fault ≡ Fault.Memory _) }
 {
     let circuit = laid.circuit();
     let width = tape.width()?;

@@ -68,6 +68,6 @@ fn bits_fault(fault: BitsFault) -> Fault
 {
     match fault {
         BitsFault::BadDigit { .. } => Fault::BadBits { word: 1 },
-        BitsFault::Memory => Fault::Memory,
+        BitsFault::Memory(memory) => Fault::Memory(memory),
     }
 }

@@ -62,6 +62,6 @@ fn plan_fault(fault: PlanFault, order: &Order) -> Fault
         PlanFault::Gates => Fault::Gates {
             limit: order.values.gates,
         },
-        PlanFault::Memory => Fault::Memory,
+        PlanFault::Memory(memory) => Fault::Memory(memory),
     }
 }

@@ -78,7 +78,7 @@ fn lexing_fault(fault: LexFault) -> Fault
         LexFault::BadByte(at) => refused(FaultKind::BadByte, at),
         LexFault::LongName(at) => refused(FaultKind::LongName, at),
         LexFault::LongNumber(at) => refused(FaultKind::LongNumber, at),
-        LexFault::Memory => Fault::Memory,
+        LexFault::Memory(memory) => Fault::Memory(memory),
     }
 }
 
@@ -89,7 +89,7 @@ fn parsing_fault(fault: ParseFault) -> Fault
         ParseFault::Syntax { at, .. } => refused(FaultKind::Syntax, at),
         ParseFault::Nesting(at) => refused(FaultKind::Nesting, at),
         ParseFault::Inputs(at) => refused(FaultKind::Inputs, at),
-        ParseFault::Memory => Fault::Memory,
+        ParseFault::Memory(memory) => Fault::Memory(memory),
     }
 }
 
@@ -99,7 +99,7 @@ fn scope_fault(fault: ScopeFault) -> Fault
     match fault {
         ScopeFault::Unbound(at) => refused(FaultKind::Unbound, at),
         ScopeFault::TwoParams(at) => refused(FaultKind::TwoParams, at),
-        ScopeFault::Memory => Fault::Memory,
+        ScopeFault::Memory(memory) => Fault::Memory(memory),
     }
 }
 
@@ -108,7 +108,7 @@ fn run_fault(fault: RunFault) -> Fault
 {
     match fault {
         RunFault::Stuck { cause, at } => refused(FaultKind::Stuck(cause), at),
-        RunFault::Memory => Fault::Memory,
+        RunFault::Memory(memory) => Fault::Memory(memory),
     }
 }
 

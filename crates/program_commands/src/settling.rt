@@ -30,7 +30,7 @@ pub fn settle_tape(tape: &Tape, nodes: u32) -> Result<Settled, Fault>
 fn claim_fault(tape: &Tape, fault: ClaimFault, nodes: u32) -> Fault
     requires { IsClaimFault tape.now nodes fault }
     ensures stops { ForTexts tape.now (λ text. IsSettlingFault text nodes result) }
-    ensures memory { result ≡ Fault.Memory → fault ≡ ClaimFault.Memory }
+    ensures memory { result ≡ Fault.Memory _ → fault ≡ ClaimFault.Memory _ }
 {
     match fault {
         ClaimFault::Broken { claim, input } => broken_claim(tape, claim, input),
@@ -42,7 +42,7 @@ fn claim_fault(tape: &Tape, fault: ClaimFault, nodes: u32) -> Fault
                 limit: nodes,
             }
         }
-        ClaimFault::Memory => Fault::Memory,
+        ClaimFault::Memory(memory) => Fault::Memory(memory),
     }
 }
 

@@ -258,7 +258,7 @@ gates_fail old mid new registers controls spots spot word at said (Limit place) 
     (limit_behind_argument (Flip controls) spots spot said read.takes same
     (λ after ends. let many = h.1.all controls ends.0 ends.1 in let few = ends.2 in absurd (omega (arith, many, few)))
     (h.1.more, h.1.stand controls (omega arith), h.1.many) read.closed))
-gates_fail old mid new registers controls spots spot word at said Memory so_far read equal all same h = tt
+gates_fail old mid new registers controls spots spot word at said (Memory _) so_far read equal all same h = tt
 
 -- all arguments and the end of the statement were read
 pub spots_read : (old mid new : Left) (registers : List Register) (controls : ℕ) (spots all_spots : List Spot) (spot : Spot) (word : List ℕ) (at : Place)

@@ -104,7 +104,7 @@ never_both_so h k =
 never_both : (text : List ℕ) (file : QasmView) (fault : QasmFault) → MeansFile text file → IsTextFault text fault → ⊥
 never_both text file (Token at) h k = never_both_so h k.stops
 never_both text file (Limit at) h k = never_both_so h k.stops
-never_both text file Memory h k = k
+never_both text file (Memory _) h k = k
 
 places_meet : {text word word' : List ℕ} {at at' : Place} {stage stage' : Stage} → StopsAt (whole text) head at word stage
     → StopsAt (whole text) head at' word' stage' → at ≡ at'
@@ -121,9 +121,9 @@ one_fault text (Token at) (Token at') h k = ap (λ (p : Place). Token p) (places
 one_fault text (Token at) (Limit at') h k = absurd (h.form (limits_meet h.stops k.stops k.limit))
 one_fault text (Limit at) (Token at') h k = absurd (k.form (limits_meet k.stops h.stops h.limit))
 one_fault text (Limit at) (Limit at') h k = ap (λ (p : Place). Limit p) (places_meet h.stops k.stops)
-one_fault text Memory other h k = absurd h
-one_fault text (Token at) Memory h k = absurd k
-one_fault text (Limit at) Memory h k = absurd k
+one_fault text (Memory _) other h k = absurd h
+one_fault text (Token at) (Memory _) h k = absurd k
+one_fault text (Limit at) (Memory _) h k = absurd k
 
 pub one_reading : OneReading MeansFile IsTextFault
 one_reading text = record { one_meaning = one_meaning text; one_fault = one_fault text; never_both = never_both text }

@@ -67,7 +67,7 @@ stops_behind h k = record {
 pub stops_later : {old mid : Left} {from next : Stage} (fault : QasmFault) → Reads old mid from next → IsStop mid next fault → IsStop old from fault
 stops_later (Token at) h k = record { word = k.word; stage = k.stage; stops = stops_behind h k.stops; form = k.form }
 stops_later (Limit at) h k = record { word = k.word; stage = k.stage; stops = stops_behind h k.stops; limit = k.limit }
-stops_later Memory h k = tt
+stops_later (Memory _) h k = tt
 
 -- ---- a word that is wanted
 

@@ -57,7 +57,7 @@ fault_at_size old (Token at) kind name said h =
     by (inr many) = no_number h.word many.size h.other many.number
 fault_at_size old (Limit at) kind name said h =
     breaks_limit (wants_size kind name said) h.takes (λ to leads. long_number h.word leads.size h.long leads.number) (λ e may. may) (inl (h.spelled, h.long))
-fault_at_size old Memory kind name said h = tt
+fault_at_size old (Memory _) kind name said h = tt
 
 pub zero_at_size : {old new : Left} {at : Place} (kind : RegisterKind) (name : List ℕ) (said : Said) → TakesNumber old new 0 at
     → BreaksRule old (wants_size kind name said) at
@@ -93,7 +93,7 @@ fault_at_index old (Token at) usage spots first size said h =
 fault_at_index old (Limit at) usage spots first size said h =
     breaks_limit (wants_index usage spots first size said) h.takes (λ to leads. long_number h.word leads.index h.long leads.number) (λ e may. may)
     (h.spelled, h.long)
-fault_at_index old Memory usage spots first size said h = tt
+fault_at_index old (Memory _) usage spots first size said h = tt
 
 pub beyond_at_index : {old new : Left} {at : Place} (index : ℕ) (usage : Use) (spots : List Spot) (first size : ℕ) (said : Said)
     → TakesNumber old new index at → size ≤ index → BreaksRule old (wants_index usage spots first size said) at
@@ -118,7 +118,7 @@ fault_at_name old (Token at) kind said h =
 fault_at_name old (Limit at) kind said h =
     breaks_limit (wants_name kind said) h.takes (λ to leads. let few = leads.named.few in let long = h.long in absurd (omega arith)) (λ e may. may)
     (h.spelled, h.long)
-fault_at_name old Memory kind said h = tt
+fault_at_name old (Memory _) kind said h = tt
 
 pub kept_at_name : {old new : Left} {word : List ℕ} {at : Place} (kind : RegisterKind) (said : Said) → TakesName old new word at
     → (IsName word → (¬ IsAmong word said.names) → ⊥) → BreaksRule old (wants_name kind said) at
@@ -142,7 +142,7 @@ fault_at_argument old (Token at) usage spots said h =
 fault_at_argument old (Limit at) usage spots said h =
     breaks_limit (wants_argument usage spots said) h.takes (λ to leads. let few = leads.few in let long = h.long in absurd (omega arith)) (λ e may. may)
     (h.spelled, h.long)
-fault_at_argument old Memory usage spots said h = tt
+fault_at_argument old (Memory _) usage spots said h = tt
 
 pub unlaid_at_argument : {old new : Left} {word : List ℕ} {at : Place} (usage : Use) (spots : List Spot) (said : Said) → TakesName old new word at
     → ((first size : ℕ) → ¬ IsLaid said.registers word first size) → BreaksRule old (wants_argument usage spots said) at

@@ -33,7 +33,7 @@ pub record BreaksLimit (old : Left) (from : Stage) (at : Place) : Type 0 where
 abbrev pub IsStop : Left → Stage → QasmFault → Type 0
 IsStop old from (Token at) = BreaksRule old from at
 IsStop old from (Limit at) = BreaksLimit old from at
-IsStop old from Memory = Unit {0}
+IsStop old from (Memory _) = Unit {0}
 
 -- what `read` may end with: the text's fault, or want of memory
 abbrev pub IsQasmFault : List ℕ → QasmFault → Type 0
@@ -43,4 +43,4 @@ IsQasmFault text fault = IsStop (whole text) head fault
 abbrev pub IsTextFault : List ℕ → QasmFault → Type 0
 IsTextFault text (Token at) = BreaksRule (whole text) head at
 IsTextFault text (Limit at) = BreaksLimit (whole text) head at
-IsTextFault text Memory = ⊥
+IsTextFault text (Memory _) = ⊥

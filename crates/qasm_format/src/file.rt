@@ -6,7 +6,7 @@ ghost use Rattle.qasm_format.specs.Registers.{lines_of_all};
 ghost use Rattle.qasm_format.specs.Qasm.{QasmView};
 
 use mct_circuit::Circuit;
-use revc_base::{Place, Text, WantOfMemory};
+use revc_base::{Memory, Place, Text, WantOfMemory};
 use std::marker::Model;
 
 /// A register: its name and its number of lines.
@@ -76,13 +76,13 @@ impl QasmFile {
 pub enum QasmFault {
     Token { at: Place },
     Limit { at: Place },
-    Memory,
+    Memory(Memory),
 }
 
 impl<M: WantOfMemory> From<M> for QasmFault {
-    ghost from_gives = { λ _ e. e ≡ faults.Memory };
+    ghost from_gives = { λ _ e. e ≡ faults.Memory _ };
 
-    fn from(_: M) -> QasmFault {
-        QasmFault::Memory
+    fn from(want: M) -> QasmFault {
+        QasmFault::Memory(want.memory())
     }
 }

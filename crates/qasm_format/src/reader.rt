@@ -64,7 +64,7 @@ fn file_of(alloc: Global, said: &mut Said) -> Result<QasmFile, QasmFault>
       registers = said.old.declared.registers;
       gates = said.old.gates.items;
     }) }
-    ensures err { IfErr result (λ fault. fault ≡ QasmFault.Memory) }
+    ensures err { IfErr result (λ fault. fault ≡ QasmFault.Memory _) }
 {
     let registers = said.declared.copies(alloc)?;
     let circuit = circuit_of(alloc, said.declared.lines(), &mut said.gates)?;
@@ -82,7 +82,7 @@ fn circuit_of(alloc: Global, lines: u32, gates: &mut Vec<Gate>) -> Result<Circui
     let mut circuit = Circuit::new(alloc, lines, MOST_GATES);
     match circuit.append(gates) {
         Ok(()) => Ok(circuit),
-        Err(GateFault::Memory) => Err(Memory),
+        Err(GateFault::Memory(memory)) => Err(memory),
         Err(GateFault::Full) => unreachable!(),
     }
 }
@@ -94,7 +94,7 @@ fn take_word(tokens: &mut Tokens, wanted: &[u8]) -> Result<(), QasmFault>
     requires { 0 < length wanted.now }
     ensures ok { OnOk result (ReadsWord tokens.old tokens.new wanted.now) }
     ensures err { IfErr result (StopsAtWord tokens.old wanted.now) }
-    ensures exact { ¬ IsErrOf result QasmFault.Memory }
+    ensures exact { ¬ IsErrOf result (QasmFault.Memory _) }
 {
     let token = tokens.next();
     if !is_word(token.word, wanted) {
@@ -109,7 +109,7 @@ fn take_words(tokens: &mut Tokens, one: &[u8], other: &[u8]) -> Result<(), QasmF
     requires other { 0 < length other.now }
     ensures ok { OnOk result (ReadsWords tokens.old tokens.new one.now other.now) }
     ensures err { IfErr result (StopsAtWords tokens.old one.now other.now) }
-    ensures exact { ¬ IsErrOf result QasmFault.Memory }
+    ensures exact { ¬ IsErrOf result (QasmFault.Memory _) }
 {
     take_word(tokens, one)?;
     take_word(tokens, other)
@@ -120,7 +120,7 @@ fn take_name<'t>(tokens: &mut Tokens<'t>) -> Result<Token<'t>, QasmFault>
     ensures ok { IfOk result (λ token.
         TakesName tokens.old tokens.new token.word.now token.at) }
     ensures err { IfErr result (IsNameFault tokens.old) }
-    ensures exact { ¬ IsErrOf result QasmFault.Memory }
+    ensures exact { ¬ IsErrOf result (QasmFault.Memory _) }
 {
     let token = tokens.next();
     let word = token.word;
@@ -132,7 +132,7 @@ fn take_name<'t>(tokens: &mut Tokens<'t>) -> Result<Token<'t>, QasmFault>
 fn take_number(tokens: &mut Tokens) -> Result<(u32, Place), QasmFault>
     ensures ok { IfOk result (λ found. TakesNumber tokens.old tokens.new found.0 found.1) }
     ensures err { IfErr result (IsNumberFault tokens.old) }
-    ensures exact { ¬ IsErrOf result QasmFault.Memory }
+    ensures exact { ¬ IsErrOf result (QasmFault.Memory _) }
 {
     let token = tokens.next();
     let word = token.word;
@@ -157,7 +157,7 @@ fn admit(at: Place, is_kind: bool, len: usize, most: usize) -> Result<(), QasmFa
 fn read_head(tokens: &mut Tokens) -> Result<(), QasmFault>
     ensures ok { OnOk result (Reads tokens.old tokens.new head (starts nothing_said)) }
     ensures err { IfErr result (IsStop tokens.old head) }
-    ensures exact { ¬ IsErrOf result QasmFault.Memory }
+    ensures exact { ¬ IsErrOf result (QasmFault.Memory _) }
 {
     take_word(tokens, b"OPENQASM")?;
     take_words(tokens, b"2.0", b";")
@@ -190,7 +190,7 @@ fn end_of(said: &Said, at: Place) -> Result<bool, QasmFault>
         × (1 ≤ lines_of_all said.now.declared.registers)) }
     ensures err { IfErr result (λ fault. (fault ≡ QasmFault.Token at)
         × (lines_of_all said.now.declared.registers ≡ 0)) }
-    ensures exact { ¬ IsErrOf result QasmFault.Memory }
+    ensures exact { ¬ IsErrOf result (QasmFault.Memory _) }
 {
     if said.declared.lines() == 0 {
         return Err(QasmFault::Token { at });
@@ -265,7 +265,7 @@ fn take_size(tokens: &mut Tokens, kind: RegisterKind, lines: u32) -> Result<u32,
     requires { lines ≤ MOST_LINES }
     ensures ok { IfOk result (ReadsSize tokens.old tokens.new kind lines) }
     ensures err { IfErr result (StopsAtSize tokens.old kind lines) }
-    ensures exact { ¬ IsErrOf result QasmFault.Memory }
+    ensures exact { ¬ IsErrOf result (QasmFault.Memory _) }
 {
     take_word(tokens, b"[")?;
     let (size, at) = take_number(tokens)?;
@@ -301,7 +301,7 @@ fn read_argument<'t>(
     ensures ok { IfOk result (λ read. ReadsArgument tokens.old tokens.new declared.now.registers
         read.0 read.1.word.now read.1.at) }
     ensures err { IfErr result (StopsAtArgument tokens.old declared.now.registers) }
-    ensures exact { ¬ IsErrOf result QasmFault.Memory }
+    ensures exact { ¬ IsErrOf result (QasmFault.Memory _) }
 {
     let name = take_name(tokens)?;
     let Some(span) = declared.find(name.word) else {
@@ -320,7 +320,7 @@ fn read_index<'t>(tokens: &mut Tokens<'t>, span: Span) -> Result<(Spot, Token<'t
     ensures ok { IfOk result (λ read. ReadsIndex tokens.old tokens.new span.first span.size
         read.0 read.1.word.now read.1.at) }
     ensures err { IfErr result (StopsAtIndex tokens.old span.first span.size) }
-    ensures exact { ¬ IsErrOf result QasmFault.Memory }
+    ensures exact { ¬ IsErrOf result (QasmFault.Memory _) }
 {
     let (index, at) = take_number(tokens)?;
     if index >= span.size {
@@ -333,7 +333,7 @@ fn read_index<'t>(tokens: &mut Tokens<'t>, span: Span) -> Result<(Spot, Token<'t
 fn read_barrier<'t>(declared: &Declared<'t>, tokens: &mut Tokens<'t>) -> Result<(), QasmFault>
     ensures ok { OnOk result (ReadsBarrier tokens.old tokens.new declared.now.registers) }
     ensures err { IfErr result (StopsAtBarrier tokens.old declared.now.registers) }
-    ensures exact { ¬ IsErrOf result QasmFault.Memory }
+    ensures exact { ¬ IsErrOf result (QasmFault.Memory _) }
 {
     'arguments: loop {
         let (_, behind) = read_argument(declared, tokens)?;

@@ -152,7 +152,7 @@ module _ (s : SumGraphView) (b : BudgetView) (count : ℕ) (f : ForwardView) (is
       let weight : price_at toggle_weight s k ≡ toggle_weight fault.1.node =
       ap (λ (x : SumGraphView). price_at toggle_weight x k) (sym is.graph) ∙ price_node toggle_weight f.graph k fault.1.node fault.1.is in
       omega (arith, fault.1.heavy, gates_are, is.costs weight_of toggle_weight weight_price, weight, paid)
-  refused k Memory low paid fault = swept_room
+  refused k (Memory _) low paid fault = swept_room
 
   pub next_refused : (e : PlanFault) → count < length s.nodes → IsToggleFault f count e → IsReadyFault s b e
   next_refused e low fault =
@@ -173,7 +173,7 @@ module _ (s : SumGraphView) (b : BudgetView) (count : ℕ) (f : ForwardView) (is
       let outputs = ap (λ (x : SumGraphView). sum_by toggle_weight x.outputs) is.graph in
       let paid = is.costs weight_of toggle_weight weight_price in
       omega (arith, fault, gates_are, outputs, paid, all_most toggle_weight s f.lines count, front, prices_all toggle_weight s)
-  finish_refused Memory inside fault = swept_room
+  finish_refused (Memory _) inside fault = swept_room
 
   -- ---- a toggle
 

@@ -25,4 +25,4 @@ abbrev pub IsReadyFault : SumGraphView → BudgetView → PlanFault → Type 0
 IsReadyFault s b (Lines need) =
     (b.lines < first_work s + length s.nodes + b.borrow) × (need ≡ wanted_lines (first_work s) b)
 IsReadyFault s b Gates = b.gates < ready_gates s
-IsReadyFault s b Memory = HasPortLines (first_work s) b
+IsReadyFault s b (Memory _) = HasPortLines (first_work s) b

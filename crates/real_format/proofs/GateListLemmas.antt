@@ -16,7 +16,7 @@ use Rattle.real_format.specs.inside.Stamps.{FitsNames}
 
 -- ---- one more gate
 
-pub memory_refuses : {A : Type 0} (said : Result A LineRefusal) (r : Result (Unit {0}) LineRefusal) → IfErr r (λ refusal. refusal ≡ Memory)
+pub memory_refuses : {A : Type 0} (said : Result A LineRefusal) (r : Result (Unit {0}) LineRefusal) → IfErr r (λ refusal. refusal ≡ Memory _)
     → IfErr r (Refuses said)
 memory_refuses said (Ok u) is = tt
 memory_refuses said (Err refusal) is = subst (Refuses said) (sym is) tt

@@ -57,7 +57,7 @@ refused_control names has word name Form signed is refuses =
     rw signed (ap (λ r. and_then r (λ line. Ok (control_on false line))) (ap (line_of names has) (sym is) ∙ refuses))
 refused_control names has word name Limit signed is refuses =
     rw signed (ap (λ r. and_then r (λ line. Ok (control_on false line))) (ap (line_of names has) (sym is) ∙ refuses))
-refused_control names has word name Memory signed is refuses = tt
+refused_control names has word name (Memory _) signed is refuses = tt
 
 target_of-same : (names : List (List ℕ)) (has other : ℕ → Bool) (words : List (List ℕ)) → ((line : ℕ) → line < length names → has line ≡ other line)
     → target_of names has words ≡ target_of names other words
@@ -103,12 +103,12 @@ stamped_more stamps stamp first line low = elim (cases_Bool (eqb line first)) [
 pub refuses_on : {A B : Type 0} (said : Result A LineRefusal) (f : A → Result B LineRefusal) (e : LineRefusal) → Refuses said e → Refuses (and_then said f) e
 refuses_on said f Form is = ap (λ s. and_then s f) is
 refuses_on said f Limit is = ap (λ s. and_then s f) is
-refuses_on said f Memory is = tt
+refuses_on said f (Memory _) is = tt
 
 pub refuses_same : {A : Type 0} (said other : Result A LineRefusal) (e : LineRefusal) → said ≡ other → Refuses other e → Refuses said e
 refuses_same said other Form same is = same ∙ is
 refuses_same said other Limit same is = same ∙ is
-refuses_same said other Memory same is = tt
+refuses_same said other (Memory _) same is = tt
 
 -- ---- a line
 

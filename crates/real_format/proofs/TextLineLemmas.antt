@@ -28,12 +28,12 @@ none_left place lines e = ap (verdict place (lines.number + 1)) e
 pub fault_is : (said : Result RealView RealFault) (fault : RealFault) → said ≡ Err fault → IsFaultOf said fault
 fault_is said (faults.Line n) e = e
 fault_is said (faults.Limit n) e = e
-fault_is said faults.Memory e = tt
+fault_is said (faults.Memory _) e = tt
 
 pub fault_same : (said other : Result RealView RealFault) (fault : RealFault) → said ≡ other → IsFaultOf other fault → IsFaultOf said fault
 fault_same said other (faults.Line n) same e = same ∙ e
 fault_same said other (faults.Limit n) same e = same ∙ e
-fault_same said other faults.Memory same e = tt
+fault_same said other (faults.Memory _) same e = tt
 
 -- a line of the header keeps what fits
 pub keeps_sound : (said after : HeaderView) (words : List (List ℕ)) → IsSound said → after_line (in_header said) words ≡ Ok (in_header after) → IsSound after

@@ -170,18 +170,18 @@ line_fault : (text : List ℕ) (number : ℕ) (r : LineRefusal) (n : ℕ) → fa
     → HasFault (in_header nothing_said) 1 (said_lines text) r n → BreaksForm text number
 line_fault text number Limit n is h = absurd (cc)
 line_fault text number Form n is h = let same : number ≡ n = cc in bad_form text number Form n (λ e. cc) same h
-line_fault text number Memory n is h = let same : number ≡ n = cc in bad_form text number Memory n (λ e. cc) same h
+line_fault text number (Memory _) n is h = let same : number ≡ n = cc in bad_form text number (Memory _) n (λ e. cc) same h
 
 limit_fault : (text : List ℕ) (number : ℕ) (r : LineRefusal) (n : ℕ) → faults.Limit number ≡ text_fault n r
     → HasFault (in_header nothing_said) 1 (said_lines text) r n → BreaksLimit text number
 limit_fault text number Form n is h = absurd (cc)
-limit_fault text number Memory n is h = absurd (cc)
+limit_fault text number (Memory _) n is h = absurd (cc)
 limit_fault text number Limit n is h =
     let same : number ≡ n = cc in
     record { place = h.at; line = h.line; bad = bad_line text number Limit n same h; limit = limit_line h.at h.line h.fit h.refused }
 
 pub faults_so : (text : List ℕ) (fault : RealFault) → IsFaultOf (verdict (in_header nothing_said) 1 (said_lines text)) fault → IsRealFault text fault
-faults_so text faults.Memory e = tt
+faults_so text (faults.Memory _) e = tt
 faults_so text (faults.Line number) e = elim (fault_so (in_header nothing_said) 1 (said_lines text) (faults.Line number) sound_at_first e) [
   | inl h ↦ inl (line_fault text number h.0 h.1 h.2 h.3)
   | inr h ↦
@@ -224,7 +224,7 @@ form_verdict text number b = by (after_line b.place b.line) refl
     by (Ok next) e = absurd (b.bad.nowhere next (leads_so b.place next b.line (bad_is_fit text number b.place b.line b.bad) e))
     by (Err Form) e = bad_verdict text number b.place b.line Form b.bad e
     by (Err Limit) e = absurd (b.form (limit_line b.place b.line (bad_is_fit text number b.place b.line b.bad) e))
-    by (Err Memory) e = bad_verdict text number b.place b.line Memory b.bad e
+    by (Err (Memory _)) e = bad_verdict text number b.place b.line (Memory _) b.bad e
 
 limit_verdict : (text : List ℕ) (number : ℕ) → BreaksLimit text number → verdict (in_header nothing_said) 1 (said_lines text) ≡ Err (faults.Limit number)
 limit_verdict text number b =
@@ -247,7 +247,7 @@ fault_verdict : (text : List ℕ) (fault : RealFault) → IsTextFault text fault
 fault_verdict text (faults.Line number) (inl b) = form_verdict text number b
 fault_verdict text (faults.Line number) (inr n) = none_verdict text number n
 fault_verdict text (faults.Limit number) b = limit_verdict text number b
-fault_verdict text faults.Memory f = absurd f
+fault_verdict text (faults.Memory _) f = absurd f
 
 pub one_reading : OneReading MeansFile IsTextFault
 one_reading text = record {
@@ -257,17 +257,17 @@ one_reading text = record {
 }
 
 -- a verdict is no want of memory
-no_memory : (number : ℕ) (r : LineRefusal) → ¬ (faults.Memory ≡ text_fault number r)
+no_memory : (number : ℕ) (r : LineRefusal) → ¬ (faults.Memory _ ≡ text_fault number r)
 no_memory number Form e = cc
 no_memory number Limit e = cc
-no_memory number Memory e = cc
+no_memory number (Memory _) e = cc
 
 fault_is : (text : List ℕ) (fault : RealFault) → verdict (in_header nothing_said) 1 (said_lines text) ≡ Err fault → IsTextFault text fault
 fault_is text (faults.Line number) e = faults_so text (faults.Line number) e
 fault_is text (faults.Limit number) e = faults_so text (faults.Limit number) e
-fault_is text faults.Memory e = elim (fault_so (in_header nothing_said) 1 (said_lines text) faults.Memory sound_at_first e) [
+fault_is text (faults.Memory _) e = elim (fault_so (in_header nothing_said) 1 (said_lines text) (faults.Memory _) sound_at_first e) [
   | inl h ↦ absurd (no_memory h.1 h.0 h.2)
-  | inr h ↦ absurd (let is : faults.Memory ≡ faults.Line h.0 = h.1 in cc)
+  | inr h ↦ absurd (let is : faults.Memory _ ≡ faults.Line h.0 = h.1 in cc)
 ]
 
 pub some_reading : SomeReading MeansFile IsTextFault

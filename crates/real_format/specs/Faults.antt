@@ -115,10 +115,10 @@ pub record BreaksLimit (text : List ℕ) (number : ℕ) : Type 0 where
 abbrev pub IsTextFault : List ℕ → RealFault → Type 0
 IsTextFault text (Line number) = BreaksForm text number ⊎ HasNoEnd text number
 IsTextFault text (Limit number) = BreaksLimit text number
-IsTextFault text Memory = ⊥
+IsTextFault text (Memory _) = ⊥
 
 -- what `read` may end with: the text's fault, or want of memory
 abbrev pub IsRealFault : List ℕ → RealFault → Type 0
 IsRealFault text (Line number) = IsTextFault text (Line number)
 IsRealFault text (Limit number) = IsTextFault text (Limit number)
-IsRealFault text Memory = Unit {0}
+IsRealFault text (Memory _) = Unit {0}

@@ -5,7 +5,7 @@ ghost use Rattle.real_format.specs.declared.file.RealFault.TheVariants as faults
 ghost use Rattle.real_format.specs.Real.{RealView};
 
 use mct_circuit::Circuit;
-use revc_base::{Text, WantOfMemory};
+use revc_base::{Memory, Text, WantOfMemory};
 use std::marker::Model;
 
 /// What a `.real` file says of the bit with which a line starts: nothing (`-`), 0 or 1.
@@ -23,14 +23,14 @@ pub enum Mark {
 pub enum RealFault {
     Line { number: u32 },
     Limit { number: u32 },
-    Memory,
+    Memory(Memory),
 }
 
 impl<M: WantOfMemory> From<M> for RealFault {
-    ghost from_gives = { λ _ e. e ≡ faults.Memory };
+    ghost from_gives = { λ _ e. e ≡ faults.Memory _ };
 
-    fn from(_: M) -> RealFault {
-        RealFault::Memory
+    fn from(want: M) -> RealFault {
+        RealFault::Memory(want.memory())
     }
 }
 

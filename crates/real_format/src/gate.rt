@@ -124,7 +124,7 @@ fn control_of(
     ensures in_range { IfOk result (λ control. control.line < length names.now) }
     ensures err { IfErr result (Refuses
         (control_of names.now (is_stamped stamps.old stamp) word.now)) }
-    ensures exact { ¬ IsErrOf result LineRefusal.Memory }
+    ensures exact { ¬ IsErrOf result (LineRefusal.Memory _) }
 {
     if has_sign(word) {
         let (_, name) = word.split_at(1);
@@ -151,7 +151,7 @@ fn line_of(names: &Names, stamps: &mut [u32], stamp: u32, word: &[u8]) -> Result
     ensures in_range { IfOk result (λ line. line < length names.now) }
     ensures err { IfErr result (Refuses
         (line_of names.now (is_stamped stamps.old stamp) word.now)) }
-    ensures exact { ¬ IsErrOf result LineRefusal.Memory }
+    ensures exact { ¬ IsErrOf result (LineRefusal.Memory _) }
 {
     if !begins_name(word) {
         return Err(LineRefusal::Form);
@@ -191,7 +191,7 @@ fn op_of(
     ensures stamps { OnOk result (AllByRecursion (λ s. s ≤ stamp) stamps.new) }
     ensures err { IfErr result (Refuses
         (op_of names.now targets (is_stamped stamps.old stamp) words.old)) }
-    ensures exact { ¬ IsErrOf result LineRefusal.Memory }
+    ensures exact { ¬ IsErrOf result (LineRefusal.Memory _) }
 {
     let first = target_of(names, stamps, stamp, words)?;
     if targets == 1 {
@@ -216,7 +216,7 @@ fn target_of(
     ensures in_range { IfOk result (λ line. line < length names.now) }
     ensures err { IfErr result (Refuses
         (target_of names.now (is_stamped stamps.old stamp) words.old)) }
-    ensures exact { ¬ IsErrOf result LineRefusal.Memory }
+    ensures exact { ¬ IsErrOf result (LineRefusal.Memory _) }
 {
     let Some(word) = words.next() else {
         return Err(LineRefusal::Form);
@@ -228,7 +228,7 @@ fn target_of(
 fn alone(op: Op, words: &mut Words) -> Result<Op, LineRefusal>
     ensures ok { IfOk result (λ alone_op. alone op words.old ≡ Ok alone_op) }
     ensures err { IfErr result (Refuses (alone op words.old)) }
-    ensures exact { ¬ IsErrOf result LineRefusal.Memory }
+    ensures exact { ¬ IsErrOf result (LineRefusal.Memory _) }
 {
     if !words.is_done() {
         return Err(LineRefusal::Form);

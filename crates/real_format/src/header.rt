@@ -162,7 +162,7 @@ impl<'t> Header<'t> {
     pub fn begin(self, alloc: Global) -> Result<Begun<'t>, RealFault>
         requires { IsSome self.names }
         ensures ok { IfOk result (BeginsAs self.entry) }
-        ensures err { IfErr result (λ fault. fault ≡ RealFault.Memory) }
+        ensures err { IfErr result (λ fault. fault ≡ RealFault.Memory _) }
     {
         let Header {
             names,
@@ -208,7 +208,7 @@ impl<'t> Header<'t> {
     fn add_version(&mut self, words: &mut Words<'t>) -> Result<(), LineRefusal>
         ensures ok { OnOk result (add_version self.old words.old ≡ Ok self.new) }
         ensures err { IfErr result (Refuses (add_version self.old words.old)) }
-        ensures exact { ¬ IsErrOf result LineRefusal.Memory }
+        ensures exact { ¬ IsErrOf result (LineRefusal.Memory _) }
     {
         if self.version {
             return Err(LineRefusal::Form);
@@ -226,7 +226,7 @@ impl<'t> Header<'t> {
     fn add_lines(&mut self, words: &mut Words<'t>) -> Result<(), LineRefusal>
         ensures ok { OnOk result (add_lines self.old words.old ≡ Ok self.new) }
         ensures err { IfErr result (Refuses (add_lines self.old words.old)) }
-        ensures exact { ¬ IsErrOf result LineRefusal.Memory }
+        ensures exact { ¬ IsErrOf result (LineRefusal.Memory _) }
     {
         if self.lines.is_some() {
             return Err(LineRefusal::Form);
@@ -273,7 +273,7 @@ fn count_of(words: &mut Words) -> Result<u32, LineRefusal>
     ensures ok { IfOk result (λ count. count_of words.old ≡ Ok count) }
     ensures few { IfOk result (λ count. count ≤ MOST_LINES) }
     ensures err { IfErr result (Refuses (count_of words.old)) }
-    ensures exact { ¬ IsErrOf result LineRefusal.Memory }
+    ensures exact { ¬ IsErrOf result (LineRefusal.Memory _) }
 {
     let Some(word) = words.next() else {
         return Err(LineRefusal::Form);
@@ -317,7 +317,7 @@ fn add_names<'t>(
 fn add_name<'t>(names: &mut Names<'t>, word: &'t [u8]) -> Result<(), LineRefusal>
     ensures ok { OnOk result (more_names names.old word.now ≡ Ok names.new) }
     ensures err { IfErr result (Refuses (more_names names.old word.now)) }
-    ensures memory { IsErrOf result LineRefusal.Memory → IsName word.now }
+    ensures memory { IsErrOf result (LineRefusal.Memory _) → IsName word.now }
 {
     if !begins_name(word) {
         return Err(LineRefusal::Form);

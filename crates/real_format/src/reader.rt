@@ -229,11 +229,11 @@ fn push_gate(circuit: &mut Circuit, gate: Gate) -> Result<(), LineRefusal>
     requires placed { AllByRecursion (λ line. line < circuit.old.lines) (lines_of gate) }
     ensures ok { OnOk result (circuit.new ≡ record circuit.old
         { gates = circuit.old.gates ++ gate ∷ [] }) }
-    ensures err { IfErr result (λ refusal. refusal ≡ LineRefusal.Memory) }
+    ensures err { IfErr result (λ refusal. refusal ≡ LineRefusal.Memory _) }
 {
     match circuit.push(gate) {
         Ok(()) => Ok(()),
-        Err(GateFault::Memory) => Err(LineRefusal::Memory),
+        Err(GateFault::Memory(memory)) => Err(LineRefusal::Memory(memory)),
         Err(GateFault::Full) => unreachable!(),
     }
 }

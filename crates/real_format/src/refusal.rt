@@ -4,7 +4,7 @@ ghost use Rattle.real_format.specs.declared.refusal.LineRefusal.TheVariants as f
 ghost use Rattle.real_format.specs.inside.Reading.{fault_at};
 
 use crate::file::RealFault;
-use revc_base::WantOfMemory;
+use revc_base::{Memory, WantOfMemory};
 
 // The first word of the line that breaks a rule breaks one of form, or passes a limit; or memory
 // was refused.
@@ -12,7 +12,7 @@ use revc_base::WantOfMemory;
 pub enum LineRefusal {
     Form,
     Limit,
-    Memory,
+    Memory(Memory),
 }
 
 impl LineRefusal {
@@ -23,15 +23,15 @@ impl LineRefusal {
         match self {
             LineRefusal::Form => RealFault::Line { number },
             LineRefusal::Limit => RealFault::Limit { number },
-            LineRefusal::Memory => RealFault::Memory,
+            LineRefusal::Memory(memory) => RealFault::Memory(memory),
         }
     }
 }
 
 impl<M: WantOfMemory> From<M> for LineRefusal {
-    ghost from_gives = { λ _ e. e ≡ faults.Memory };
+    ghost from_gives = { λ _ e. e ≡ faults.Memory _ };
 
-    fn from(_: M) -> LineRefusal {
-        LineRefusal::Memory
+    fn from(want: M) -> LineRefusal {
+        LineRefusal::Memory(want.memory())
     }
 }

@@ -27,14 +27,14 @@ pub enum BitsFault {
     /// The byte at this place, counted from 0, is the first that is neither `0` nor `1`.
     BadDigit { at: u32 },
     /// There was no memory left.
-    Memory,
+    Memory(Memory),
 }
 
 impl<M: WantOfMemory> From<M> for BitsFault {
-    ghost from_gives = { λ _ e. e ≡ faults.Memory };
+    ghost from_gives = { λ _ e. e ≡ faults.Memory _ };
 
-    fn from(_: M) -> BitsFault {
-        BitsFault::Memory
+    fn from(want: M) -> BitsFault {
+        BitsFault::Memory(want.memory())
     }
 }
 

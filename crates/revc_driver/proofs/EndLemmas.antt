@@ -23,12 +23,12 @@ use Rattle.revc_words.specs.Words.{OrderView, IsOrder, HasNoOrder}
 -- ---- the words
 
 -- memory is wanting
-pub memory_failed : (run : Run) → run.out.IsUnchanged → IsCalm run.out → IsCalm run.source → Reads run → Fails run Memory
+pub memory_failed : (run : Run) → run.out.IsUnchanged → IsCalm run.out → IsCalm run.source → Reads run → Fails run (Memory _)
 memory_failed run same written_well read_well reads = record {
   usage = λ e. absurd cc;
   no_order = λ none. inr refl;
   may = λ other. memory_may run.words;
-  cause = all_served run (IsCausedBy Memory) (λ order text. tt);
+  cause = all_served run (IsCausedBy (Memory _)) (λ order text. tt);
   begins = λ e. absurd cc;
   silent = λ other. same;
   exact = λ r m. absurd (m refl);
@@ -62,13 +62,13 @@ words_failed {S} {K} rest faults held counts source out all words.Usage none =
       write_fault = λ e. absurd cc;
       written_well = λ other. refl;
     }
-words_failed {S} {K} rest faults held counts source out all words.Memory none =
+words_failed {S} {K} rest faults held counts source out all (words.Memory _) none =
     let run : Run = run_of all (source_device rest faults source source) (device held counts out out) in
     memory_failed run refl refl refl (reads_none run refl refl)
 
 -- the words give no order where the reader of words says so
 pub usage_of : {T : Type 0} (all : List (List ℕ)) (fault : WordsFault) (result : Result T WordsFault) → result ≡ Err fault
-    → (result ≢ Err words.Memory → IsErrOf result words.Usage ↔ HasNoOrder all) → fault ≡ words.Usage → HasNoOrder all
+    → (result ≢ Err (words.Memory _) → IsErrOf result words.Usage ↔ HasNoOrder all) → fault ≡ words.Usage → HasNoOrder all
 usage_of {T} all fault result is says same =
     (says (λ e. let both = sym is ∙ e in absurd cc)).0 (is ∙ ap (λ (f : WordsFault). let r : Result T WordsFault = Err f in r) same)
 
@@ -86,7 +86,7 @@ caused : (order : OrderView) (text : List ℕ) (fault : Fault) → IsOfText faul
 caused order text Usage of_text cause = absurd of_text
 caused order text Read of_text cause = absurd of_text
 caused order text Write of_text cause = absurd of_text
-caused order text Memory of_text cause = absurd of_text
+caused order text (Memory _) of_text cause = absurd of_text
 caused order text fault of_text cause = cause
 
 -- an exact cause is that of the fault, or the fault may come in its place
@@ -170,7 +170,7 @@ read_failed run order fault is law r same written_well =
     by_reason : (why : ReadFault) → (why ≡ reading.TooLong → IfSome run.source.old.bytes (λ rest. r.own.bytes < length rest))
         → (why ≡ reading.Failed → Rises run.source) → ((why ≡ reading.Failed → ⊥) → IsCalm run.source) → Fails run (reading_fault r.own why)
     by_reason reading.Failed long failed calm = source_failed run order r.own is r.is_own same written_well (failed refl) reads
-    by_reason reading.Memory long failed calm = memory_failed run same written_well (calm (λ e. absurd cc)) reads
+    by_reason (reading.Memory _) long failed calm = memory_failed run same written_well (calm (λ e. absurd cc)) reads
     by_reason reading.TooLong long failed calm =
         let told : IfSome (text_told (reads_of order) run.source.old.bytes) (λ text. IsCause order text r.own.fault) =
         subst (λ (o : Option TextLimit). IfSome (text_told o run.source.old.bytes) (λ text. IsCause order text r.own.fault)) (sym r.is_own)
@@ -180,8 +180,8 @@ read_failed run order fault is law r same written_well =
 
 -- ---- behind the text
 
-cause_or_memory : (order : OrderView) (text : List ℕ) (fault : Fault) → IsCauseOrMemory order text fault → (fault ≡ Memory) ⊎ IsCause order text fault
-cause_or_memory order text Memory h = inl refl
+cause_or_memory : (order : OrderView) (text : List ℕ) (fault : Fault) → IsCauseOrMemory order text fault → (fault ≡ Memory _) ⊎ IsCause order text fault
+cause_or_memory order text (Memory _) h = inl refl
 cause_or_memory order text fault h = inr h
 
 pub not_prepared : (run : Run) (order : OrderView) (items lent : List ℕ) (fault : Fault) → IsOrder run.words order

@@ -32,7 +32,7 @@ rests : (order : OrderView) (text : List ℕ) (fault : Fault) → RestsOnText (s
 rests order text Usage on cause = absurd (on.no_words refl)
 rests order text Read on cause = absurd (on.no_read refl)
 rests order text Write on cause = absurd (on.no_write refl)
-rests order text Memory on cause = absurd (on.no_memory refl)
+rests order text (Memory _) on cause = absurd (on.no_memory refl)
 rests order text fault on cause = cause
 
 -- a sink that surely takes what the order gives takes it

@@ -89,7 +89,7 @@ fn reading_fault(limit: TextLimit, fault: ReadFault) -> Fault
     match fault {
         ReadFault::Failed => Fault::Read,
         ReadFault::TooLong => limit.fault,
-        ReadFault::Memory => Fault::Memory,
+        ReadFault::Memory(memory) => Fault::Memory(memory),
     }
 }
 
@@ -98,6 +98,6 @@ fn words_fault(fault: WordsFault) -> Fault
 {
     match fault {
         WordsFault::Usage => Fault::Usage,
-        WordsFault::Memory => Fault::Memory,
+        WordsFault::Memory(memory) => Fault::Memory(memory),
     }
 }

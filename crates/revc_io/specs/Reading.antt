@@ -13,13 +13,13 @@ TakesCount old new P = (taken : List ℕ) × Consumes old new taken × P (length
 abbrev pub TakenAt : ReadFault → ℕ → ℕ → Type 0
 TakenAt TooLong limit count = count ≡ limit + 1
 TakenAt Failed limit count = count ≤ limit
-TakenAt Memory limit count = count ≤ limit
+TakenAt (Memory _) limit count = count ≤ limit
 
 -- the count of faults at each refusal: it rose where the source failed, and stays at each other
 abbrev pub CountsAt : ReadFault → ℕ → ℕ → Type 0
 CountsAt Failed before now = Rose before now
 CountsAt TooLong before now = now ≡ before
-CountsAt Memory before now = now ≡ before
+CountsAt (Memory _) before now = now ≡ before
 
 -- all bytes of the rest were taken, to its end, and they are within the limit
 pub record ReadsAll (old new : Option (List ℕ)) (limit : ℕ) (all : List ℕ) : Type 0 where

@@ -3,7 +3,7 @@ ghost use Rattle.revc_io.specs.Reading.{CountsFault, ReadsAll, StopsAt};
 ghost use Rattle.revc_io.specs.declared.reading.ReadFault.TheVariants as faults;
 
 use crate::{Failed, Source};
-use revc_base::WantOfMemory;
+use revc_base::{Memory, WantOfMemory};
 use std::alloc::Global;
 
 /// Why a whole text was not read: the source failed, the text is longer than the limit, or memory
@@ -12,7 +12,7 @@ use std::alloc::Global;
 pub enum ReadFault {
     Failed,
     TooLong,
-    Memory,
+    Memory(Memory),
 }
 
 impl From<Failed> for ReadFault {
@@ -24,10 +24,10 @@ impl From<Failed> for ReadFault {
 }
 
 impl<M: WantOfMemory> From<M> for ReadFault {
-    ghost from_gives = { λ _ e. e ≡ faults.Memory };
+    ghost from_gives = { λ _ e. e ≡ faults.Memory _ };
 
-    fn from(_: M) -> ReadFault {
-        ReadFault::Memory
+    fn from(want: M) -> ReadFault {
+        ReadFault::Memory(want.memory())
     }
 }
 

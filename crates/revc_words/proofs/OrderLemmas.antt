@@ -727,12 +727,12 @@ no_fault : {T : Type 0} (x : T) (b : WordsFault) → IsErrOf {T = T} {E = WordsF
 no_fault x b is = absurd cc
 
 pub exactly : (words : List (List ℕ)) (result : Result Order WordsFault) → IfOk result (λ order. IsOrder words (order_of order))
-    → (IsErrOf result faults.Usage → HasNoOrder words) → result ≢ Err faults.Memory → IsErrOf result faults.Usage ↔ HasNoOrder words
+    → (IsErrOf result faults.Usage → HasNoOrder words) → result ≢ Err (faults.Memory _) → IsErrOf result faults.Usage ↔ HasNoOrder words
 exactly words (Ok order) ok usage memory = (λ is. absurd (no_fault order faults.Usage is), λ none. absurd (none.refuted (order_of order) ok))
 exactly words (Err faults.Usage) ok usage memory = (usage, λ none. refl)
-exactly words (Err faults.Memory) ok usage memory = absurd (memory refl)
+exactly words (Err (faults.Memory _)) ok usage memory = absurd (memory refl)
 
 pub exactly_err : (Says : WordsFault → Type 0) (words : List (List ℕ)) (result : Result Order WordsFault) → IsErrAnd result Says
-    → (IsErrOf result faults.Usage → HasNoOrder words) → result ≢ Err faults.Memory → IsErrOf result faults.Usage ↔ HasNoOrder words
+    → (IsErrOf result faults.Usage → HasNoOrder words) → result ≢ Err (faults.Memory _) → IsErrOf result faults.Usage ↔ HasNoOrder words
 exactly_err Says words (Ok order) err usage memory = absurd err
 exactly_err Says words (Err fault) err usage memory = exactly words (Err fault) tt usage memory

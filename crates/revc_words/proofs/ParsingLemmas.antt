@@ -1,5 +1,5 @@
 -- What clap's clauses say of the command that reads the words, and of what it finds.
-use Rattle.std.proofs.Common.{◌≡◌, ◌≢◌, ℕ, true, List, [], ◌∷◌, map, Option, Some, None, refl, sym, ap, ◌∙◌, codes, inl, inr, Bor}
+use Rattle.std.proofs.Common.{◌≡◌, ◌≢◌, ◌↔◌, ℕ, true, List, [], ◌∷◌, map, Option, Some, None, refl, sym, ap, ◌∙◌, codes, inl, inr, Bor}
 use Rattle.std.specs.Prelude.{Result, Ok, Err, IsErrOf, IsErrAnd, unwrap_or, option_map}
 use Rattle.std.specs.Option.{option_and_then}
 use Rattle.clap.specs.Words.{App, HasKind, Kinds, Row, fault_of, is_simple, is_simple_and_free, kind_of, matched_of, matches_of, raw_values, rows_of}
@@ -47,8 +47,8 @@ fails command app words error is has other =
     ∙ some_kind (fault_of app words) error (Some (matches_of app words)) (has (ap is_simple_and_free is ∙ simple_and_free command)) other
 
 -- what a fault that is passed on says
-pub passes_on : {T : Type 0} {P : Type 0} (result : Result T WordsFault) → IsErrOf result faults.Usage → IsErrAnd result (λ e. e ≡ faults.Usage → P) → P
-passes_on {T} {P} (Err e) is said = said (same is)
+pub passes_on : {T : Type 0} {P : Type 0} (result : Result T WordsFault) → IsErrOf result faults.Usage → IsErrAnd result (λ e. e ≡ faults.Usage ↔ P) → P
+passes_on {T} {P} (Err e) is said = said.0 (same is)
   where
     same : IsErrOf {T = T} {E = WordsFault} (Err e) faults.Usage → e ≡ faults.Usage
     same is = cc

@@ -34,7 +34,7 @@ pub fn orders_are_within_limits()
 /// known.
 pub fn read_words(alloc: Global, words: &[String]) -> Result<Order, WordsFault>
     ensures ok { IfOk result (λ order. IsOrder (words_of words.now) (order_of order)) }
-    ensures usage { result ≢ Err WordsFault.Memory
+    ensures usage { result ≢ Err (WordsFault.Memory _)
         → (IsErrOf result WordsFault.Usage ↔ HasNoOrder (words_of words.now)) }
 {
     let [name, ..] = words else {

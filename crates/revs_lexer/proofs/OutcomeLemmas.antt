@@ -43,27 +43,27 @@ abbrev GivesTokens : {V : Type 0} → (V → List Token) → List ℕ → Result
 GivesTokens items text r = IfOk r (λ all. (ts : List Token) × IsTokens text ts × (items all ≡ closed text ts))
 
 abbrev GivesRefusal : {V : Type 0} → List ℕ → Result V LexFault → Type 0
-GivesRefusal text r = IfErr r (λ fault. fault ≢ faults.Memory → IsRefused text fault)
+GivesRefusal text r = IfErr r (λ fault. fault ≢ faults.Memory _ → IsRefused text fault)
 
-memory_or_not : (fault : LexFault) → (fault ≡ faults.Memory) ⊎ (fault ≢ faults.Memory)
-memory_or_not faults.Memory = inl refl
+memory_or_not : (fault : LexFault) → (fault ≡ faults.Memory _) ⊎ (fault ≢ faults.Memory _)
+memory_or_not (faults.Memory _) = inl refl
 memory_or_not (faults.BadByte at) = inr (λ e. absurd cc)
 memory_or_not (faults.LongName at) = inr (λ e. absurd cc)
 memory_or_not (faults.LongNumber at) = inr (λ e. absurd cc)
 
 pub only_tokens : {V : Type 0} (items : V → List Token) (text : List ℕ) (r : Result V LexFault) → GivesTokens items text r → GivesRefusal text r
-    → (ts : List Token) → IsTokens text ts → MatchResult r (λ all. items all ≡ closed text ts) (λ fault. fault ≡ faults.Memory)
+    → (ts : List Token) → IsTokens text ts → MatchResult r (λ all. items all ≡ closed text ts) (λ fault. fault ≡ faults.Memory _)
 only_tokens items text (Ok all) (us, k, same) f ts h = same ∙ ap (closed text) (IsTokens-same text us ts k h)
 only_tokens items text (Err fault) t f ts h =
-    ⊎_elim (λ (memory : fault ≡ faults.Memory). memory) (λ (own : fault ≢ faults.Memory). absurd (refused_has_no_tokens text fault ts (f own) h))
+    ⊎_elim (λ (memory : fault ≡ faults.Memory _). memory) (λ (own : fault ≢ faults.Memory _). absurd (refused_has_no_tokens text fault ts (f own) h))
     (memory_or_not fault)
 
 pub only_refusal : {V : Type 0} (items : V → List Token) (text : List ℕ) (r : Result V LexFault) → GivesTokens items text r → GivesRefusal text r
-    → (fault : LexFault) → IsRefused text fault → IsErrOf r fault ⊎ IsErrOf r faults.Memory
+    → (fault : LexFault) → IsRefused text fault → IsErrOf r fault ⊎ IsErrOf r (faults.Memory _)
 only_refusal items text (Ok all) (us, k, same) f fault h = absurd (refused_has_no_tokens text fault us h k)
 only_refusal {V} items text (Err found) t f fault h =
     let answer : LexFault → Result V LexFault = λ e. Err e in
-    ⊎_elim (λ (memory : found ≡ faults.Memory). inr (ap answer memory)) (λ (own : found ≢ faults.Memory). inl
+    ⊎_elim (λ (memory : found ≡ faults.Memory _). inr (ap answer memory)) (λ (own : found ≢ faults.Memory _). inl
     (ap answer (IsRefused-same text found fault (f own) h))) (memory_or_not found)
 
 pub ended : {V : Type 0} (items : V → List Token) (text : List ℕ) (r : Result V LexFault) → GivesTokens items text r → IfOk r (λ all. IsEnded (items all))

@@ -111,8 +111,9 @@ fn token(alloc: Global, text: &[u8], at: Place) -> Result<(Tok, usize), LexFault
     ensures longest { IfOk result (λ found. IsLongest text.now (take found.1 text.now)
         (drop found.1 text.now) found.0) }
     ensures within { IfOk result (λ found. IsWithinLimits (take found.1 text.now) found.0) }
-    ensures refused { IfErr result (λ fault. fault ≢ LexFault.Memory → Refuses at text.now fault) }
-    ensures memory { IsErrOf result LexFault.Memory → BeginsShortName text.now }
+    ensures refused { IfErr result (λ fault.
+        fault ≢ LexFault.Memory _ → Refuses at text.now fault) }
+    ensures memory { IsErrOf result (LexFault.Memory _) → BeginsShortName text.now }
 {
     if is_letter(text[0]) {
         let len = name_len(text);
@@ -140,7 +141,8 @@ fn take_piece(tokens: &mut Vec<Token>, text: &[u8], at: Place) -> Result<usize, 
     requires { 0 < length text.now }
     ensures in_range { IfOk result (λ len. (0 < len) × (len ≤ length text.now)) }
     ensures taken { IfOk result (λ len. Takes at text.now len tokens.old.items tokens.new.items) }
-    ensures refused { IfErr result (λ fault. fault ≢ LexFault.Memory → Refuses at text.now fault) }
+    ensures refused { IfErr result (λ fault.
+        fault ≢ LexFault.Memory _ → Refuses at text.now fault) }
     ensures kept { OnErr result (tokens.new.items ≡ tokens.old.items) }
 {
     let gap = gap_len(text);
@@ -158,7 +160,8 @@ fn cut(alloc: Global, text: &[u8]) -> Result<Vec<Token>, LexFault>
     requires { length text.now + 1 < 2 ^ 32 }
     ensures tokens { IfOk result (λ all. (ts : List Token) × IsTokens text.now ts
         × (all.items ≡ closed text.now ts)) }
-    ensures refused { IfErr result (λ fault. fault ≢ LexFault.Memory → IsRefused text.now fault) }
+    ensures refused { IfErr result (λ fault.
+        fault ≢ LexFault.Memory _ → IsRefused text.now fault) }
 {
     let mut tokens = Vec::new(alloc);
     let mut at = Place { line: 1, column: 1 };
@@ -192,12 +195,13 @@ pub fn tokens(alloc: Global, text: &[u8]) -> Result<Vec<Token>, LexFault>
         × (all.items ≡ closed text.now ts)) }
     ensures only_tokens { (ts : List Token) → IsTokens text.now ts →
         MatchResult result (λ all. all.items ≡ closed text.now ts) (λ fault. fault
-        ≡ LexFault.Memory) }
+        ≡ LexFault.Memory _) }
 
     // The first refusal of the text and no other.
-    ensures refused { IfErr result (λ fault. fault ≢ LexFault.Memory → IsRefused text.now fault) }
+    ensures refused { IfErr result (λ fault.
+        fault ≢ LexFault.Memory _ → IsRefused text.now fault) }
     ensures only_refusal { (fault : LexFault) → IsRefused text.now fault →
-        IsErrOf result fault ⊎ IsErrOf result LexFault.Memory }
+        IsErrOf result fault ⊎ IsErrOf result (LexFault.Memory _) }
 
     // The last token is `End`, and no other is.
     ensures ended { IfOk result (λ all. IsEnded all.items) }

@@ -2,7 +2,7 @@ ghost use Rattle.std.specs.Prelude.{◌≡◌};
 ghost use Rattle.revs_lexer.specs.declared.token.LexFault.TheVariants as faults;
 
 use crate::{Sign, Word};
-use revc_base::{Place, Text, WantOfMemory};
+use revc_base::{Memory, Place, Text, WantOfMemory};
 
 /// What a token is.
 #[derive(Drop)]
@@ -34,13 +34,13 @@ pub enum LexFault {
     /// The number that begins at this place has more than 4 digits.
     LongNumber(Place),
     /// There was no memory left.
-    Memory,
+    Memory(Memory),
 }
 
 impl<M: WantOfMemory> From<M> for LexFault {
-    ghost from_gives = { λ _ e. e ≡ faults.Memory };
+    ghost from_gives = { λ _ e. e ≡ faults.Memory _ };
 
-    fn from(_: M) -> LexFault {
-        LexFault::Memory
+    fn from(want: M) -> LexFault {
+        LexFault::Memory(want.memory())
     }
 }

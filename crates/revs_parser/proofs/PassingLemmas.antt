@@ -214,10 +214,10 @@ pub still_exact : {T U E : Type 0} {fault : E} (r : Result T E) (other : E) → 
 still_exact r other e n = one_fault other r e (λ same. n (ap Err same))
 
 -- Where memory is wanting, nothing is said of the tokens.
-pub no_memory : {es : Stack} {ts : List Token} → Halts es ts stops.Memory
+pub no_memory : {es : Stack} {ts : List Token} → Halts es ts (stops.Memory _)
 no_memory = record { halt = λ ms. tt }
 
-pub wants_memory : {es : Stack} {ts : List Token} {stop : Stop} → stop ≡ stops.Memory → Halts es ts stop
+pub wants_memory : {es : Stack} {ts : List Token} {stop : Stop} → stop ≡ stops.Memory _ → Halts es ts stop
 wants_memory e = rw e no_memory
 
 -- Where nothing was read, or the memory for it was wanting, it halts as the reading does.

@@ -215,7 +215,7 @@ left_as s why = record { front = s.front; named = s.named; rest = s.rest; cut = 
 refused : (tokens : List Token) (stop : Stop) (o : Outcome) → IsHalt stop o → Says tokens o → IsRefusal tokens stop
 refused tokens (stops.Syntax left) o e k = let f = subst (Says tokens) e k in left_as f (syntax_is f)
 refused tokens (stops.Nesting left) o e k = let f = subst (Says tokens) e k in left_as f (nesting_is f)
-refused tokens stops.Memory o e k = tt
+refused tokens (stops.Memory _) o e k = tt
 
 pub halt_is_right : (tokens : List Token) (stop : Stop) → IsEnded tokens → HaltsIn (common g.program) 0 tokens stop → IsRefusal tokens stop
 halt_is_right tokens stop e h = refused tokens stop (outcome tokens at_start) (h.halt []) (outcome_says tokens e)
@@ -290,7 +290,7 @@ pub refusal_exactly : (tokens : List Token) (fault : ParseFault) → IsRefused t
 refusal_exactly tokens (faults.Syntax number at) is = exactly tokens (syntax number at) (Err (faults.Syntax number at)) is (inr refl)
 refusal_exactly tokens (faults.Nesting at) is = exactly tokens (nesting at) (Err (faults.Nesting at)) is (inr refl)
 refusal_exactly tokens (faults.Inputs at) is = absurd is
-refusal_exactly tokens faults.Memory is = λ verdict other. inl refl
+refusal_exactly tokens (faults.Memory _) is = λ verdict other. inl refl
 
 pub inputs_at : {tokens : List Token} {params : List Param} {body : Tree} {at : Place} → HasSentence tokens params body → PassesAt params at
     → IsInputs tokens at

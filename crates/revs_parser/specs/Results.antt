@@ -16,18 +16,18 @@ Answers (inputs at) result = IsErrOf result (faults.Inputs at)
 
 -- The answer of a list of tokens with this verdict.
 abbrev pub IsAnswer : Verdict → Result Program ParseFault → Type 0
-IsAnswer verdict result = IsErrOf result faults.Memory ⊎ Answers verdict result
+IsAnswer verdict result = IsErrOf result (faults.Memory _) ⊎ Answers verdict result
 
 -- The tokens are refused for this fault rightly.
 abbrev pub IsRefused : List Token → ParseFault → Type 0
 IsRefused tokens (faults.Syntax number at) = IsSyntax tokens number at
 IsRefused tokens (faults.Nesting at) = IsNesting tokens at
 IsRefused tokens (faults.Inputs at) = ⊥
-IsRefused tokens faults.Memory = Unit {0}
+IsRefused tokens (faults.Memory _) = Unit {0}
 
 -- The tokens are refused for this fault rightly, which may be the parameters'.
 abbrev pub IsRefusedFor : List Token → ParseFault → Type 0
 IsRefusedFor tokens (faults.Syntax number at) = IsSyntax tokens number at
 IsRefusedFor tokens (faults.Nesting at) = IsNesting tokens at
 IsRefusedFor tokens (faults.Inputs at) = IsInputs tokens at
-IsRefusedFor tokens faults.Memory = Unit {0}
+IsRefusedFor tokens (faults.Memory _) = Unit {0}

@@ -71,7 +71,7 @@ fn expect_fixed(tokens: &[Token], fixed: Fixed) -> Result<&[Token], Stop>
     ensures ok { IfOk result (λ rest. Reads (token (fixed_mark fixed) ∷ []) tt
         tokens.now rest.now) }
     ensures halts { IfErr result (λ stop. Halts (token (fixed_mark fixed) ∷ []) tokens.now stop) }
-    ensures exact { ¬ IsErrOf result Stop.Memory }
+    ensures exact { ¬ IsErrOf result (Stop.Memory _) }
 {
     match after_fixed(tokens, fixed) {
         Some((_, rest)) => Ok(rest),
@@ -83,7 +83,7 @@ fn expect_fixed(tokens: &[Token], fixed: Fixed) -> Result<&[Token], Stop>
 pub fn expect(tokens: &[Token], sign: Sign) -> Result<&[Token], Stop>
     ensures ok { IfOk result (λ rest. Reads (token (g.sign sign) ∷ []) tt tokens.now rest.now) }
     ensures halts { IfErr result (λ stop. Halts (token (g.sign sign) ∷ []) tokens.now stop) }
-    ensures exact { ¬ IsErrOf result Stop.Memory }
+    ensures exact { ¬ IsErrOf result (Stop.Memory _) }
 {
     expect_fixed(tokens, Fixed::Sign(sign))
 }
@@ -92,7 +92,7 @@ pub fn expect(tokens: &[Token], sign: Sign) -> Result<&[Token], Stop>
 pub fn expect_word(tokens: &[Token], word: Word) -> Result<&[Token], Stop>
     ensures ok { IfOk result (λ rest. Reads (token (g.word word) ∷ []) tt tokens.now rest.now) }
     ensures halts { IfErr result (λ stop. Halts (token (g.word word) ∷ []) tokens.now stop) }
-    ensures exact { ¬ IsErrOf result Stop.Memory }
+    ensures exact { ¬ IsErrOf result (Stop.Memory _) }
 {
     expect_fixed(tokens, Fixed::Word(word))
 }
@@ -102,7 +102,7 @@ pub fn name(tokens: &[Token]) -> Result<(Name, &[Token]), Stop>
     ensures ok { IfOk result (λ read. Reads (kept_token g.any_name ∷ [])
         (read.0, tt) tokens.now read.1.now) }
     ensures halts { IfErr result (λ stop. Halts (kept_token g.any_name ∷ []) tokens.now stop) }
-    ensures memory { IsErrOf result Stop.Memory → name_first tokens.now ≡ true }
+    ensures memory { IsErrOf result (Stop.Memory _) → name_first tokens.now ≡ true }
 {
     match tokens.split_first() {
         Some(
@@ -127,7 +127,7 @@ pub fn number(tokens: &[Token]) -> Result<(u32, Place, &[Token]), Stop>
     ensures ok { IfOk result (λ read. ReadsForm (g.common g.number) 0
         (record { value = read.0; at = read.1 }) tokens.now read.2.now) }
     ensures halts { IfErr result (λ stop. HaltsIn (g.common g.number) 0 tokens.now stop) }
-    ensures exact { ¬ IsErrOf result Stop.Memory }
+    ensures exact { ¬ IsErrOf result (Stop.Memory _) }
 {
     match tokens.split_first() {
         Some(
@@ -147,7 +147,7 @@ pub fn number(tokens: &[Token]) -> Result<(u32, Place, &[Token]), Stop>
 pub fn number_two(tokens: &[Token]) -> Result<&[Token], Stop>
     ensures ok { IfOk result (λ rest. Reads (token g.two ∷ []) tt tokens.now rest.now) }
     ensures halts { IfErr result (λ stop. Halts (token g.two ∷ []) tokens.now stop) }
-    ensures exact { ¬ IsErrOf result Stop.Memory }
+    ensures exact { ¬ IsErrOf result (Stop.Memory _) }
 {
     match tokens.split_first() {
         Some(

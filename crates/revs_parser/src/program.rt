@@ -22,7 +22,7 @@ ghost use Rattle.revs_parser.specs.declared.program.ParseFault.TheVariants as fa
 use crate::expression::Reader;
 use crate::leaf::{after, after_word, expect, expect_word, name, number, number_two};
 use crate::stop::{Stop, put};
-use revc_base::Place;
+use revc_base::{Memory, Place};
 use revs_grammar::Profile;
 use revs_lexer::{Sign, Tok, Token, Word};
 use revs_tape::limits::MOST_INPUTS;
@@ -39,14 +39,14 @@ pub enum ParseFault {
     /// At the name of this parameter a width is 0, or the widths so far add up to more than 1,024.
     Inputs(Place),
     /// There was no memory left.
-    Memory,
+    Memory(Memory),
 }
 
 // The width of a parameter and its `)`.
 fn width(tokens: &[Token]) -> Result<(Option<u32>, &[Token]), Stop>
     ensures ok { IfOk result (λ read. ReadsForm (g.common g.width) 0 read.0 tokens.now read.1.now) }
     ensures halts { IfErr result (λ stop. HaltsIn (g.common g.width) 0 tokens.now stop) }
-    ensures exact { ¬ IsErrOf result Stop.Memory }
+    ensures exact { ¬ IsErrOf result (Stop.Memory _) }
 {
     let Some((_, behind)) = after(tokens, Sign::OpenSquare) else {
         let rest = expect(tokens, Sign::CloseRound)?;
@@ -87,7 +87,7 @@ fn parameters(mut params: Vec<Param>, tokens: &[Token]) -> Result<(Vec<Param>, &
 fn profile(tokens: &[Token]) -> Result<(Profile, &[Token]), Stop>
     ensures ok { IfOk result (λ read. ReadsProfile read.0 tokens.now read.1.now) }
     ensures halts { IfErr result (λ stop. HaltsIn (g.common g.program) 0 tokens.now stop) }
-    ensures exact { ¬ IsErrOf result Stop.Memory }
+    ensures exact { ¬ IsErrOf result (Stop.Memory _) }
 {
     if let Some((_, behind)) = after_word(tokens, Word::Main) {
         return Ok((Profile::One, behind));
@@ -174,7 +174,7 @@ fn refusal(tokens: &[Token], stop: Stop) -> ParseFault
     requires few { length tokens.now < 2 ^ 32 }
     requires refused { IsRefusal tokens.now stop }
     ensures refused { IsRefused tokens.now result }
-    ensures memory { result ≡ faults.Memory → stop ≡ Stop.Memory }
+    ensures memory { result ≡ faults.Memory _ → stop ≡ Stop.Memory _ }
 {
     match stop {
         Stop::Syntax(left) => {
@@ -185,7 +185,7 @@ fn refusal(tokens: &[Token], stop: Stop) -> ParseFault
             }
         }
         Stop::Nesting(left) => ParseFault::Nesting(tokens[tokens.len() - left].at),
-        Stop::Memory => ParseFault::Memory,
+        Stop::Memory(memory) => ParseFault::Memory(memory),
     }
 }
 
@@ -197,7 +197,7 @@ fn answer(tokens: &[Token], read: Result<(Vec<Param>, Term), Stop>) -> Result<Pr
     ensures program { IfOk result (λ p. IsProgramOf tokens.now p.params.items (tree_of p.body)) }
     ensures refused { IfErr result (λ fault. IsRefusedFor tokens.now fault) }
     ensures exact { (verdict : Verdict) → IsVerdict tokens.now verdict → IsAnswer verdict result }
-    ensures memory { IsErrOf result faults.Memory → IsErrOf read Stop.Memory }
+    ensures memory { IsErrOf result (faults.Memory _) → IsErrOf read (Stop.Memory _) }
 {
     match read {
         Ok((params, body)) => match passed_at(&params) {

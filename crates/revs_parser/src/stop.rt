@@ -4,7 +4,7 @@ ghost use Rattle.std.specs.Prelude.{◌≡◌, Ok, Err, MatchResult};
 ghost use Rattle.revs_parser.specs.declared.stop.Stop.TheVariants as faults;
 ghost use Rattle.revs_parser.specs.inside.Reading.{Puts, Lacks};
 
-use revc_base::WantOfMemory;
+use revc_base::{Memory, WantOfMemory};
 
 // Why the reading stops, with the number of tokens that are left then; the refused token is the
 // first of them.
@@ -12,14 +12,14 @@ use revc_base::WantOfMemory;
 pub enum Stop {
     Syntax(usize),
     Nesting(usize),
-    Memory,
+    Memory(Memory),
 }
 
 impl<M: WantOfMemory> From<M> for Stop {
-    ghost from_gives = { λ _ e. e ≡ faults.Memory };
+    ghost from_gives = { λ _ e. e ≡ faults.Memory _ };
 
-    fn from(_: M) -> Stop {
-        Stop::Memory
+    fn from(want: M) -> Stop {
+        Stop::Memory(want.memory())
     }
 }
 

@@ -22,7 +22,7 @@ pub fn plan(alloc: Global, graph: &SumGraph, budget: &Budget) -> Result<Option<P
     match steps(alloc, graph, budget) {
         Ok(steps) => follow(alloc, graph, budget, &steps),
         Err(Stop::Lost) => Ok(None),
-        Err(Stop::Memory) => Err(Memory),
+        Err(Stop::Memory(memory)) => Err(memory),
     }
 }
 

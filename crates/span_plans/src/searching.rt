@@ -178,8 +178,8 @@ pub fn best_sweep(alloc: Global, graph: &SpanGraph, ports: u32, room: u32) -> Re
         spent: 0,
     };
     // Where the work is spent, what was found until then counts.
-    if let Err(Stop::Memory) = search.try_all() {
-        return Err(Stop::Memory);
+    if let Err(Stop::Memory(memory)) = search.try_all() {
+        return Err(Stop::Memory(memory));
     }
     match search.best {
         Some((_, swept)) => Ok(swept),

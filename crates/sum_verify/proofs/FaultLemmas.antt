@@ -8,5 +8,5 @@ use Rattle.sum_verify.specs.Refusals.{RefusalsSaidOfTapes}
 pub refusals_said : RefusalsSaidOfTapes
 refusals_said t s is c start borrow (faults.Lines need) said = (said_of_tapes t s is c start borrow 1).refused (verify.Lines need) said
 refusals_said t s is c start borrow (faults.Gate gate) said = (said_of_tapes t s is c start borrow 1).refused (verify.Gate gate) said
-refusals_said t s is c start borrow faults.Unsettled said = (said_of_tapes t s is c start borrow 1).refused verify.Memory said
-refusals_said t s is c start borrow faults.Memory said = (said_of_tapes t s is c start borrow 1).refused verify.Memory said
+refusals_said t s is c start borrow faults.Unsettled said = (said_of_tapes t s is c start borrow 1).refused (verify.Memory _) said
+refusals_said t s is c start borrow (faults.Memory _) said = (said_of_tapes t s is c start borrow 1).refused (verify.Memory _) said

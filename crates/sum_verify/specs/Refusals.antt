@@ -16,12 +16,12 @@ abbrev pub IsSumsFault : Comparison → SumsFault → Type 0
 IsSumsFault q (faults.Lines need) = (q.circuit.lines < need) × (need ≡ least_lines q)
 IsSumsFault q (faults.Gate gate) = HasEnoughLines q × IsFirstWide q.circuit.gates gate
 IsSumsFault q faults.Unsettled = IsComparable q
-IsSumsFault q faults.Memory = IsComparable q
+IsSumsFault q (faults.Memory _) = IsComparable q
 
 -- why a circuit that can be compared is not verified, as such a fault
 abbrev pub sums_fault : Stop → SumsFault
 sums_fault stops.Unsettled = faults.Unsettled
-sums_fault stops.Memory = faults.Memory
+sums_fault (stops.Memory _) = faults.Memory _
 
 -- The law: what refuses the settled graph of a tape refuses the tape.
 abbrev pub RefusalsSaidOfTapes : Type 0

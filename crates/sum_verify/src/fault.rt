@@ -5,7 +5,7 @@ ghost use Rattle.sum_verify.specs.inside.Stops.{stop_of};
 ghost use Rattle.sum_verify.specs.Refusals.{sums_fault};
 
 use product_sums::ProductsFault;
-use revc_base::Memory;
+use revc_base::{Memory, WantOfMemory};
 use std::alloc::{AllocError, AllocFailed};
 
 /// Why a circuit is not verified by sums of products. Gates are counted from 0.
@@ -19,14 +19,14 @@ pub enum SumsFault {
     /// The sums do not tell: some line is not known to end as it should, or a limit is passed.
     Unsettled,
     /// Want of memory.
-    Memory,
+    Memory(Memory),
 }
 
 // Why a circuit that can be compared is not verified.
 #[derive(Clone, Copy, Debug, PartialEq, Eq)]
 pub enum Stop {
     Unsettled,
-    Memory,
+    Memory(Memory),
 }
 
 impl From<Stop> for SumsFault {
@@ -35,7 +35,7 @@ impl From<Stop> for SumsFault {
     fn from(stop: Stop) -> SumsFault {
         match stop {
             Stop::Unsettled => SumsFault::Unsettled,
-            Stop::Memory => SumsFault::Memory,
+            Stop::Memory(memory) => SumsFault::Memory(memory),
         }
     }
 }
@@ -46,31 +46,31 @@ impl From<ProductsFault> for Stop {
     fn from(fault: ProductsFault) -> Stop {
         match fault {
             ProductsFault::Limit => Stop::Unsettled,
-            ProductsFault::Memory => Stop::Memory,
+            ProductsFault::Memory(memory) => Stop::Memory(memory),
         }
     }
 }
 
 impl From<Memory> for Stop {
-    ghost from_gives = { λ _ stop. stop ≡ stops.Memory };
+    ghost from_gives = { λ _ stop. stop ≡ stops.Memory _ };
 
-    fn from(_: Memory) -> Stop {
-        Stop::Memory
+    fn from(want: Memory) -> Stop {
+        Stop::Memory(want)
     }
 }
 
 impl From<AllocError> for Stop {
-    ghost from_gives = { λ _ stop. stop ≡ stops.Memory };
+    ghost from_gives = { λ _ stop. stop ≡ stops.Memory _ };
 
-    fn from(_: AllocError) -> Stop {
-        Stop::Memory
+    fn from(want: AllocError) -> Stop {
+        Stop::Memory(want.memory())
     }
 }
 
 impl<T: Drop> From<AllocFailed<T>> for Stop {
-    ghost from_gives = { λ _ stop. stop ≡ stops.Memory };
+    ghost from_gives = { λ _ stop. stop ≡ stops.Memory _ };
 
-    fn from(_: AllocFailed<T>) -> Stop {
-        Stop::Memory
+    fn from(want: AllocFailed<T>) -> Stop {
+        Stop::Memory(want.memory())
     }
 }

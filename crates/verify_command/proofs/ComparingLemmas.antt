@@ -48,7 +48,7 @@ comparing order q (verdicts.Lines need) way is = (refl, is.0, is.1)
 comparing order q (verdicts.Gate gate) way is = wide_gate q gate is.0 is.1
 comparing order q (verdicts.Diagram nodes) way is = (way, is.0, is.1, is.2)
 comparing order q (verdicts.Differs line bits) way is = (way, record { comparable = is.0; before = line; first = is.1; count = refl })
-comparing order q verdicts.Memory way is = tt
+comparing order q (verdicts.Memory _) way is = tt
 
 named_gate : (circuit : CircuitView) (gate : ℕ) → IsFirstWide circuit.gates gate → gate < length circuit.gates
 named_gate circuit gate first =
@@ -61,7 +61,7 @@ named q limit (verdicts.Lines need) is = tt
 named q limit (verdicts.Gate gate) is = named_gate q.circuit gate is.1
 named q limit (verdicts.Diagram nodes) is = tt
 named q limit (verdicts.Differs line bits) is = is.1.in_range
-named q limit verdicts.Memory is = tt
+named q limit (verdicts.Memory _) is = tt
 
 pub tape_stops : (t : TapeView) (s : SettledView) (params : List ℕ) (circuit : CircuitView) (order : OrderView) (fault : VerifyFault) (given : Fault)
     → params ≡ t.params → IsSettledOf t s → given ≡ comparing_fault circuit fault → HasDiagrams order.way
@@ -155,7 +155,7 @@ pub text_stops : (order : OrderView) (program text : List ℕ) (fault : Fault) �
     → IsPartsFault order program text fault
 text_stops order program text (faults.Refused (refusals.At kind at)) short h = (short, h)
 text_stops order program text (faults.Refused refusals.TooLong) short h = absurd h
-text_stops order program text faults.Memory short h = tt
+text_stops order program text (faults.Memory _) short h = tt
 text_stops order program text fault short h = absurd h
 
 pub circuit_stops : (order : OrderView) (program text : List ℕ) (tape : TapeView) (fault : Fault) → length text ≤ MOST_CIRCUIT_BYTES
@@ -165,7 +165,7 @@ circuit_stops order program text tape (faults.Circuit (circuits.Line number)) sh
 circuit_stops order program text tape (faults.Circuit (circuits.LineLimit number)) short left h = (tape, left, h)
 circuit_stops order program text tape (faults.Circuit (circuits.Token at)) short left h = (tape, left, h)
 circuit_stops order program text tape (faults.Circuit (circuits.TokenLimit at)) short left h = (tape, left, h)
-circuit_stops order program text tape faults.Memory short left h = tt
+circuit_stops order program text tape (faults.Memory _) short left h = tt
 circuit_stops order program text tape fault short left h = absurd h
 
 settling_stops : (order : OrderView) (program text : List ℕ) (read : ReadCircuit) (fault : Fault) → Means order.from text read
@@ -174,7 +174,7 @@ settling_stops order program text read (faults.Refused refusals.TooLong) means h
 settling_stops order program text read (faults.Refused (refusals.At kind at)) means h = (means.short, h)
 settling_stops order program text read (faults.Claim number at bits) means h = (read, means, h)
 settling_stops order program text read (faults.Diagram number at limit) means h = (read, means, h)
-settling_stops order program text read faults.Memory means h = tt
+settling_stops order program text read (faults.Memory _) means h = tt
 settling_stops order program text read fault means h = absurd h
 
 pub claims_stop : (order : OrderView) (program text : List ℕ) (tape : TapeView) (read : ReadCircuit) (fault : Fault) → LeavesTape program tape
@@ -193,7 +193,7 @@ comparison_stops order program text tape read (faults.Differs number bits) settl
     record { tape = tape; settled = settled; read = read; means = means; holds = h }
 comparison_stops order program text tape read faults.Unsettled settled means h =
     record { tape = tape; settled = settled; read = read; means = means; holds = h }
-comparison_stops order program text tape read faults.Memory settled means h = tt
+comparison_stops order program text tape read (faults.Memory _) settled means h = tt
 comparison_stops order program text tape read fault settled means h = absurd h
 
 pub texts_stop : {T : Type 0} (order : OrderView) (program text : List ℕ) (tape : TapeView) (graph : SettledView) (read : ReadCircuit)
@@ -216,7 +216,7 @@ source_verified {T} {E} order source program circuit (Err e) short parted h = tt
 
 source_stops : (order : OrderView) (source program circuit : List ℕ) (fault : Fault) → length source ≤ MOST_SOURCE_BYTES → IsParted source program circuit
     → IsPartsFault order program circuit fault → IsVerifyingFault order source fault
-source_stops order source program circuit faults.Memory short parted h = tt
+source_stops order source program circuit (faults.Memory _) short parted h = tt
 source_stops order source program circuit faults.NoPart short parted h = absurd h.holds
 source_stops order source program circuit (faults.Circuit circuits.TooLong) short parted h =
     inr (record { short = short; program = program; circuit = circuit; parted = parted; holds = h })

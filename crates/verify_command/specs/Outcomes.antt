@@ -7,5 +7,5 @@ use Rattle.verify_command.specs.Verify.{IsCause}
 
 -- why a source is not verified, or there was no memory left
 abbrev pub IsVerifyingFault : OrderView → List ℕ → Fault → Type 0
-IsVerifyingFault order source Memory = Unit {0}
+IsVerifyingFault order source (Memory _) = Unit {0}
 IsVerifyingFault order source fault = IsCause order source fault

@@ -101,6 +101,6 @@ pub fn comparing_fault(circuit: &Circuit, fault: VerifyFault) -> Fault
             line: line + 1,
             bits,
         },
-        VerifyFault::Memory => Fault::Memory,
+        VerifyFault::Memory(memory) => Fault::Memory(memory),
     }
 }

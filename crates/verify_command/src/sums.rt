@@ -41,7 +41,7 @@ pub fn agrees_by_sums(
             SumsFault::Gate { gate } => {
                 Err(comparing_fault(circuit, VerifyFault::Gate { gate }))
             }
-            SumsFault::Memory => Err(Fault::Memory),
+            SumsFault::Memory(memory) => Err(Fault::Memory(memory)),
         },
     }
 }

@@ -33,7 +33,7 @@ price_if false price = 0
 abbrev pub IsHeavy : ForwardView → ℕ → PlanFault → Type 0
 IsHeavy f weight (Lines need) = ⊤
 IsHeavy f weight Gates = f.budget.gates < 2 * (weight_in f.gates + weight)
-IsHeavy f weight Memory = ⊤
+IsHeavy f weight (Memory _) = ⊤
 
 -- ---- moves
 
@@ -51,14 +51,14 @@ abbrev pub HasNeed : ForwardView → PlanFault → Type 0
 HasNeed f (Lines need) =
     (need ≡ f.budget.lines + 1) × (work_lines f.graph f.budget < length f.graph.nodes)
 HasNeed f Gates = ⊤
-HasNeed f Memory = ⊤
+HasNeed f (Memory _) = ⊤
 
 -- the work lines are fewer than the reach, or the gates too few for the toggles
 abbrev pub IsShort : ForwardView → ℕ → ℕ → PlanFault → Type 0
 IsShort f reach toggles (Lines need) = work_lines f.graph f.budget < reach
 IsShort f reach toggles Gates =
     IsLight f.graph → f.budget.gates < 2 * (weight_in f.gates + 2 * toggles)
-IsShort f reach toggles Memory = ⊤
+IsShort f reach toggles (Memory _) = ⊤
 
 -- why such a move was refused
 pub record IsMoveFault (f : ForwardView) (reach toggles : ℕ) (e : PlanFault) : Type 0 where

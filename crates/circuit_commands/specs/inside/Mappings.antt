@@ -10,9 +10,9 @@ use Rattle.command_answers.specs.declared.fault.CircuitRefusal.TheVariants as ci
 abbrev pub real_fault : RealFault → Fault
 real_fault (reals.Line number) = Circuit (circuits.Line number)
 real_fault (reals.Limit number) = Circuit (circuits.LineLimit number)
-real_fault reals.Memory = Memory
+real_fault (reals.Memory _) = Memory _
 
 abbrev pub qasm_fault : QasmFault → Fault
 qasm_fault (qasms.Token at) = Circuit (circuits.Token at)
 qasm_fault (qasms.Limit at) = Circuit (circuits.TokenLimit at)
-qasm_fault qasms.Memory = Memory
+qasm_fault (qasms.Memory _) = Memory _

@@ -69,5 +69,5 @@ pub record HasSomeSplit (most : ℕ) (circuit : ReadCircuit) : Type 0 where
 abbrev pub IsSplitFault : (most : ℕ) → ReadCircuit → Fault → Type 0
 IsSplitFault most circuit (Lines need limit) = LacksLine most circuit need limit
 IsSplitFault most circuit (Gates limit) = HasManyGates most circuit limit
-IsSplitFault most circuit Memory = HasSomeSplit most circuit
+IsSplitFault most circuit (Memory _) = HasSomeSplit most circuit
 IsSplitFault most circuit _ = ⊥

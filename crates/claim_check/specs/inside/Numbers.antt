@@ -61,14 +61,14 @@ pub record HasLabel (labels : List ℕ) (label slot : ℕ) : Type 0 where
 -- the claims through one pass the limit of a diagram; memory is wanted only where there is room for a node more
 abbrev pub PassLimit : TapeView → ℕ → DiagramView → DdFault → Type 0
 PassLimit t claims d (faults.Full nodes) = HasMore t claims d.limit × (nodes ≡ d.limit)
-PassLimit t claims d faults.Memory = length d.nodes < d.limit
+PassLimit t claims d (faults.Memory _) = length d.nodes < d.limit
 
 -- ---- claims
 
 -- the fault of a claim whose diagrams are refused
 abbrev pub claim_fault : ℕ → DdFault → ClaimFault
 claim_fault number (faults.Full nodes) = claim_faults.Diagram number nodes
-claim_fault number faults.Memory = claim_faults.Memory
+claim_fault number (faults.Memory _) = claim_faults.Memory _
 
 -- the least assignment that does not give the bit, as an input
 pub record IsLeastOther (f : Function) (bit : Bool) (variables : List ℕ) (input : List Bool)

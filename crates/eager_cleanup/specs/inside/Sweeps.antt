@@ -122,7 +122,7 @@ pub record IsTooHeavy (value : Option Polynomial) (f : ForwardView) (k : ℕ) : 
 abbrev pub IsCleaningFault : Option Polynomial → ForwardView → ℕ → PlanFault → Type 0
 IsCleaningFault value f k (Lines need) = ⊥
 IsCleaningFault value f k Gates = IsTooHeavy value f k
-IsCleaningFault value f k Memory = ⊤
+IsCleaningFault value f k (Memory _) = ⊤
 
 -- ---- the cleaning of an operand
 
@@ -148,4 +148,4 @@ abbrev pub IsUseFault : SettledView → List (Option Polynomial) → ℕ → Bas
     → PlanFault → Type 0
 IsUseFault s known user base f (Lines need) = ⊥
 IsUseFault s known user base f Gates = HasHeavy s known user base f
-IsUseFault s known user base f Memory = ⊤
+IsUseFault s known user base f (Memory _) = ⊤

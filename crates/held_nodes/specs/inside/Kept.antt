@@ -21,13 +21,13 @@ pub record WeighedView : Type 0 where
 abbrev pub IsWeightFault : ℕ → ℕ → PlanFault → Type 0
 IsWeightFault most weight (Lines need) = ⊥
 IsWeightFault most weight Gates = most < weight
-IsWeightFault most weight Memory = weight ≤ most
+IsWeightFault most weight (Memory _) = weight ≤ most
 
 -- gates of this weight are too heavy, or memory is wanting for one of them
 abbrev pub AreTooHeavy : ℕ → ℕ → PlanFault → Type 0
 AreTooHeavy most weight (Lines need) = ⊥
 AreTooHeavy most weight Gates = most < weight
-AreTooHeavy most weight Memory = ⊤
+AreTooHeavy most weight (Memory _) = ⊤
 
 -- the lines that are out are those on which nodes are held
 pub record AreOut (lines : List (Option ℕ)) (heap : HeapView) : Type 0 where

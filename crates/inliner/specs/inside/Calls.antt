@@ -85,7 +85,7 @@ argument_step deeper env callee t = do
 
 abbrev pub IsStuckAs : {A : Type 0} → RunFault → Going A → Type 0
 IsStuckAs (faults.Stuck cause at) outcome = outcome ≡ stuck cause at
-IsStuckAs faults.Memory outcome = ⊤
+IsStuckAs (faults.Memory _) outcome = ⊤
 
 -- The run is stuck as the fault says; want of memory says nothing of the run.
 pub record Says {A : Type 0} (fault : RunFault) (outcome : Going A) : Type 0 where
@@ -106,7 +106,7 @@ abbrev pub shape_fault : ShapeFault → Place → RunFault
 shape_fault shapes.Slice at = faults.Stuck causes.Slice at
 shape_fault shapes.Rotate at = faults.Stuck causes.Rotate at
 shape_fault shapes.Length at = faults.Stuck causes.Length at
-shape_fault shapes.Memory at = faults.Memory
+shape_fault (shapes.Memory _) at = faults.Memory _
 
 -- The run of a program without bits leaves this tape.
 pub record Leaves (params : List Param) (body : Tree) (tape : TapeView) : Type 0 where

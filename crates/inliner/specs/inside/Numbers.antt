@@ -28,7 +28,7 @@ index_of (negsuc i) = None
 -- A list call takes these locations, or there are none, as its fault says; or memory was wanting.
 abbrev pub Takes : ShapeFault → Option (List ℕ) → Result (Vec ℕ Global) ShapeFault → Type 0
 Takes why some (Ok made) = some ≡ Some made.items
-Takes why some (Err shapes.Memory) = ⊤
+Takes why some (Err (shapes.Memory _)) = ⊤
 Takes why some (Err shapes.Slice) = (why ≡ shapes.Slice) × (some ≡ None)
 Takes why some (Err shapes.Rotate) = (why ≡ shapes.Rotate) × (some ≡ None)
 Takes why some (Err shapes.Length) = (why ≡ shapes.Length) × (some ≡ None)

@@ -22,7 +22,7 @@ use Rattle.inliner.specs.inside.Machines.{held_by, IsMachine, AreBindings, AreLe
 
 -- What is made is as it says, or memory is wanting.
 abbrev pub Makes : {A : Type 0} → (A → Type 0) → Result A RunFault → Type 0
-Makes made result = MatchResult result made (λ fault. fault ≡ faults.Memory)
+Makes made result = MatchResult result made (λ fault. fault ≡ faults.Memory _)
 
 -- the value of a parameter whose first input is this one
 abbrev pub param_view : ℕ → Option ℕ → ValueView

@@ -12,7 +12,7 @@ use Rattle.name_scope.specs.declared.binding.ScopeFault.TheVariants as fault
 abbrev pub IsUnbound : {A : Type 0} → ScopeFault → Scoped A → Type 0
 IsUnbound (fault.Unbound at) verdict = verdict ≡ unbound at
 IsUnbound (fault.TwoParams at) verdict = ⊥
-IsUnbound fault.Memory verdict = Unit {0}
+IsUnbound (fault.Memory _) verdict = Unit {0}
 
 -- The names are bound, or the first that cannot be is refused.
 abbrev pub Binds : {A : Type 0} → Result (Unit {0}) ScopeFault → Scoped A → A → Type 0
@@ -46,7 +46,7 @@ abbrev pub Differ : Result (Unit {0}) ScopeFault → Option Place → Type 0
 Differ (Ok done) second = second ≡ None
 Differ (Err (fault.Unbound at)) second = ⊥
 Differ (Err (fault.TwoParams at)) second = second ≡ Some at
-Differ (Err fault.Memory) second = Unit {0}
+Differ (Err (fault.Memory _)) second = Unit {0}
 
 -- The names of parameters and of a body are bound, or the first that cannot be is refused.
 abbrev pub Settles : Result (Unit {0}) ScopeFault → List Param → (before now : Tree) → Type 0
@@ -54,4 +54,4 @@ Settles (Ok done) params before now =
     (second_of [] params ≡ None) × (scoped_tree (params_scope params) before ≡ scoped now)
 Settles (Err (fault.Unbound at)) params before now = scope_verdict params before ≡ unbound_name at
 Settles (Err (fault.TwoParams at)) params before now = scope_verdict params before ≡ two_params at
-Settles (Err fault.Memory) params before now = Unit {0}
+Settles (Err (fault.Memory _)) params before now = Unit {0}

@@ -26,7 +26,7 @@ abbrev pub is_refusal : Result LaidView PlanFault → Bool
 is_refusal (Ok laid) = false
 is_refusal (Err (Lines need)) = true
 is_refusal (Err Gates) = true
-is_refusal (Err Memory) = false
+is_refusal (Err (Memory _)) = false
 
 -- ---- the split of a plan
 
@@ -53,7 +53,7 @@ pub record IsLaidAsIs (p : PlannedView) (b : BudgetView) (laid : LaidView) : Typ
 abbrev pub IsSplitFault : List GateView → BudgetView → PlanFault → Type 0
 IsSplitFault gates b (Lines need) = ⊥
 IsSplitFault gates b Gates = b.gates < sum_by most_gates gates
-IsSplitFault gates b Memory = ⊤
+IsSplitFault gates b (Memory _) = ⊤
 
 -- its lines and gates are within the numbers of the block
 abbrev pub IsLaidInBlocks : SettledView → ℕ → BudgetView → LaidView → Type 0
@@ -67,7 +67,7 @@ abbrev pub IsSearchFault : SettledView → ℕ → BudgetView → PlanFault → 
 IsSearchFault s block b (Lines need) =
     NoLargerFits s block b × IsPebblingFault s block b (Lines need)
 IsSearchFault s block b Gates = NoLargerFits s block b × IsPebblingFault s block b Gates
-IsSearchFault s block b Memory = IsPebblingFault s block b Memory
+IsSearchFault s block b (Memory _) = IsPebblingFault s block b (Memory _)
 
 -- ---- plans of a lean graph
 
@@ -117,7 +117,7 @@ abbrev pub better_of : LaidView → Result LaidView PlanFault → Result LaidVie
 better_of ready (Ok pebbling) = Ok (if is_better pebbling ready then pebbling else ready)
 better_of ready (Err (Lines need)) = Ok ready
 better_of ready (Err Gates) = Ok ready
-better_of ready (Err Memory) = Err Memory
+better_of ready (Err (Memory _)) = Err (Memory _)
 
 -- the better plan where both fit, and the one that fits where one does; else the refusal of the second
 abbrev pub best_of : Result LaidView PlanFault → Result LaidView PlanFault
@@ -125,7 +125,7 @@ abbrev pub best_of : Result LaidView PlanFault → Result LaidView PlanFault
 best_of (Ok ready) pebbling = better_of ready pebbling
 best_of (Err (Lines need)) pebbling = pebbling
 best_of (Err Gates) pebbling = pebbling
-best_of (Err Memory) pebbling = Err Memory
+best_of (Err (Memory _)) pebbling = Err (Memory _)
 
 -- ---- the best of several plans
 
@@ -143,13 +143,13 @@ abbrev pub smaller_of : Result LaidView PlanFault → LaidView → Result LaidVi
 smaller_of (Ok laid) found = Ok (if is_smaller found laid then found else laid)
 smaller_of (Err (Lines need)) found = Ok found
 smaller_of (Err Gates) found = Ok found
-smaller_of (Err Memory) found = Err Memory
+smaller_of (Err (Memory _)) found = Err (Memory _)
 
 -- the best plan so far is no worse than the lean one, where that fits
 pub record IsBestSoFar (s : SettledView) (b : BudgetView) (lean : Result LaidView PlanFault)
     (laid : LaidView) : Type 0 where
   pub plan : IsLaidNarrow Zero s b laid
-  pub enough : lean ≢ Err Memory
+  pub enough : lean ≢ Err (Memory _)
   pub best : IfOk lean (IsAsCompact laid)
 
 -- what was found beside the lean plan: the best so far; or its refusal; or that memory was wanting
@@ -158,7 +158,7 @@ abbrev pub IsFoundSoFar : SettledView → BudgetView → Result LaidView PlanFau
 IsFoundSoFar s b lean (Ok laid) = IsBestSoFar s b lean laid
 IsFoundSoFar s b lean (Err (Lines need)) = lean ≡ Err (Lines need)
 IsFoundSoFar s b lean (Err Gates) = lean ≡ Err Gates
-IsFoundSoFar s b lean (Err Memory) = HasPortLines (ports_of s) b
+IsFoundSoFar s b lean (Err (Memory _)) = HasPortLines (ports_of s) b
 
 -- a search that began with the lean plan
 pub record IsCompactSearch (s : SettledView) (b : BudgetView) (tried : Result LaidView PlanFault)

@@ -21,29 +21,29 @@ abbrev pub lexing_fault : LexFault → Fault
 lexing_fault (lexer.BadByte at) = Refused (At kinds.BadByte at)
 lexing_fault (lexer.LongName at) = Refused (At kinds.LongName at)
 lexing_fault (lexer.LongNumber at) = Refused (At kinds.LongNumber at)
-lexing_fault lexer.Memory = Memory
+lexing_fault (lexer.Memory _) = Memory _
 
 abbrev pub parsing_fault : ParseFault → Fault
 parsing_fault (parser.Syntax token at) = Refused (At kinds.Syntax at)
 parsing_fault (parser.Nesting at) = Refused (At kinds.Nesting at)
 parsing_fault (parser.Inputs at) = Refused (At kinds.Inputs at)
-parsing_fault parser.Memory = Memory
+parsing_fault (parser.Memory _) = Memory _
 
 abbrev pub scope_fault : ScopeFault → Fault
 scope_fault (scopes.Unbound at) = Refused (At kinds.Unbound at)
 scope_fault (scopes.TwoParams at) = Refused (At kinds.TwoParams at)
-scope_fault scopes.Memory = Memory
+scope_fault (scopes.Memory _) = Memory _
 
 abbrev pub run_fault : RunFault → Fault
 run_fault (runs.Stuck cause at) = Refused (At (kinds.Stuck cause) at)
-run_fault runs.Memory = Memory
+run_fault (runs.Memory _) = Memory _
 
 abbrev pub plan_fault : BudgetView → PlanFault → Fault
 plan_fault budget (plans.Lines need) = Lines need budget.lines
 plan_fault budget plans.Gates = Gates budget.gates
-plan_fault budget plans.Memory = Memory
+plan_fault budget (plans.Memory _) = Memory _
 
 -- the fault of the only word of bits
 abbrev pub bits_fault : BitsFault → Fault
 bits_fault (bits.BadDigit at) = BadBits 1
-bits_fault bits.Memory = Memory
+bits_fault (bits.Memory _) = Memory _

@@ -59,7 +59,7 @@ abbrev pub IsPlanningFault : How → SettledView → BudgetView → Fault → Ty
 IsPlanningFault how s b (Lines need limit) =
     LinesAreFew how s b × (need ≡ wanted_lines (s.inputs + length s.outputs) b) × (limit ≡ b.lines)
 IsPlanningFault how s b (Gates limit) = GatesAreFew how s b × (limit ≡ b.gates)
-IsPlanningFault how s b Memory = Unit {0}
+IsPlanningFault how s b (Memory _) = Unit {0}
 IsPlanningFault how s b _ = ⊥
 
 -- the program with its names bound
@@ -80,5 +80,5 @@ pub record IsRunFault (bound : ProgramView) (fault : Fault) : Type 0 where
 -- why a word gives no input of so many bits, or there was no memory left, which is asked for only where it gives one
 abbrev pub IsBitsFault : ℕ → List ℕ → Fault → Type 0
 IsBitsFault inputs word (BadBits number) = (number ≡ 1) × (¬ IsInputWord inputs word)
-IsBitsFault inputs word Memory = IsInputWord inputs word
+IsBitsFault inputs word (Memory _) = IsInputWord inputs word
 IsBitsFault inputs word _ = ⊥

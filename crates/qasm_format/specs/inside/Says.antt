@@ -50,13 +50,13 @@ pub record IsLongToken (is_kind : List ℕ → Bool) (most : ℕ) (old : Left) (
 abbrev pub IsUnfit : (at : Place) → (is_kind : Bool) → (len most : ℕ) → QasmFault → Type 0
 IsUnfit at is_kind len most (Token place) = (place ≡ at) × (is_kind ≡ false)
 IsUnfit at is_kind len most (Limit place) = (place ≡ at) × (is_kind ≡ true) × (most < len)
-IsUnfit at is_kind len most Memory = ⊥
+IsUnfit at is_kind len most (Memory _) = ⊥
 
 -- why no token of this kind, of at most so many bytes, was taken
 abbrev pub IsTokenFault : (List ℕ → Bool) → ℕ → Left → QasmFault → Type 0
 IsTokenFault is_kind most old (Token at) = IsOtherToken is_kind old at
 IsTokenFault is_kind most old (Limit at) = IsLongToken is_kind most old at
-IsTokenFault is_kind most old Memory = ⊥
+IsTokenFault is_kind most old (Memory _) = ⊥
 
 abbrev pub IsNameFault : Left → QasmFault → Type 0
 IsNameFault old fault = IsTokenFault is_identifier MOST_NAME_BYTES old fault
@@ -207,7 +207,7 @@ pub record StandForFew (spots : List Spot) (old : List GateView) : Type 0 where
 abbrev pub IsGateFault : Place → List Spot → List GateView → QasmFault → Type 0
 IsGateFault end spots old (Token at) = (at ≡ end) × StandForNone spots
 IsGateFault end spots old (Limit at) = (at ≡ end) × PassGates spots old
-IsGateFault end spots old Memory = StandForFew spots old
+IsGateFault end spots old (Memory _) = StandForFew spots old
 
 -- controls and a target were read, and the end of the statement behind them, at this place
 pub record ReadsSpots (old new : Left) (registers : List Register) (controls : ℕ)

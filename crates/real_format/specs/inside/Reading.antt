@@ -43,7 +43,7 @@ or_form None f = Err Form
 abbrev pub Refuses : {A : Type 0} → Result A LineRefusal → LineRefusal → Type 0
 Refuses said Form = said ≡ Err Form
 Refuses said Limit = said ≡ Err Limit
-Refuses said Memory = Unit {0}
+Refuses said (Memory _) = Unit {0}
 
 -- ---- words
 
@@ -314,13 +314,13 @@ after_line (at_end file) words = if is_nil words then Ok (at_end file) else Err 
 abbrev pub fault_at : ℕ → LineRefusal → RealFault
 fault_at number Form = faults.Line number
 fault_at number Limit = faults.Limit number
-fault_at number Memory = faults.Memory
+fault_at number (Memory _) = faults.Memory _
 
 -- the text's fault; no line is refused for want of memory
 abbrev pub text_fault : ℕ → LineRefusal → RealFault
 text_fault number Form = faults.Line number
 text_fault number Limit = faults.Limit number
-text_fault number Memory = faults.Line number
+text_fault number (Memory _) = faults.Line number
 
 -- what comes of a text that ends here, where the next line would have this number
 abbrev pub verdict_at_last : Place → ℕ → Result RealView RealFault
@@ -343,4 +343,4 @@ verdict place number (line ∷ lines) =
 abbrev pub IsFaultOf : Result RealView RealFault → RealFault → Type 0
 IsFaultOf said (faults.Line number) = said ≡ Err (faults.Line number)
 IsFaultOf said (faults.Limit number) = said ≡ Err (faults.Limit number)
-IsFaultOf said faults.Memory = Unit {0}
+IsFaultOf said (faults.Memory _) = Unit {0}

@@ -16,7 +16,7 @@ use Rattle.revc_words.specs.Words.{OrderView, HasNoOrder}
 
 -- a fault of a prepared order has its cause in the text, or is want of memory
 abbrev pub IsCauseOrMemory : OrderView → List ℕ → Fault → Type 0
-IsCauseOrMemory order text Memory = Unit {0}
+IsCauseOrMemory order text (Memory _) = Unit {0}
 IsCauseOrMemory order text fault = IsCause order text fault
 
 -- ---- the text
@@ -48,7 +48,7 @@ abbrev pub IsCausedBy : Fault → OrderView → List ℕ → Type 0
 IsCausedBy Usage order text = Unit {0}
 IsCausedBy Read order text = Unit {0}
 IsCausedBy Write order text = Unit {0}
-IsCausedBy Memory order text = Unit {0}
+IsCausedBy (Memory _) order text = Unit {0}
 IsCausedBy fault order text = IsCause order text fault
 
 -- what holds of each end
@@ -68,17 +68,17 @@ pub record Succeeds (run : Run) : Type 0 where
 
 pub record Fails (run : Run) (fault : Fault) : Type 0 where
   pub usage : fault ≡ Usage → HasNoOrder run.words
-  pub no_order : HasNoOrder run.words → (fault ≡ Usage) ⊎ (fault ≡ Memory)
+  pub no_order : HasNoOrder run.words → (fault ≡ Usage) ⊎ (fault ≡ Memory _)
   pub may : fault ≢ Usage → MayEnd run.words (status_of fault)
   pub cause : HoldsOfOrder run (IsCausedBy fault)
   pub begins : fault ≡ Write
       → HoldsOfOrder run (λ order text. GrowsByPrefix (Gives order text) run.out)
   pub silent : fault ≢ Write → run.out.IsUnchanged
-  pub exact : fault ≢ Read → fault ≢ Memory
+  pub exact : fault ≢ Read → fault ≢ Memory _
       → HoldsOfOrder run (λ order text. IsStatusOfAll order text (status_of fault))
   pub completes : fault ≢ Read → fault ≢ Write
       → HoldsOfOrder run (λ order text. EndsWell order text (status_of fault))
-  pub whole : fault ≢ Usage → fault ≢ Read → fault ≢ Memory
+  pub whole : fault ≢ Usage → fault ≢ Read → fault ≢ Memory _
       → HoldsOfOrder run (IsReadWhole run.source)
   pub reads : Reads run
   pub read_fault : fault ≡ Read → Rises run.source

@@ -9,9 +9,9 @@ use Rattle.revc_words.specs.declared.fault.WordsFault.TheVariants as words
 
 abbrev pub words_fault : WordsFault → Fault
 words_fault words.Usage = Usage
-words_fault words.Memory = Memory
+words_fault (words.Memory _) = Memory _
 
 abbrev pub reading_fault : TextLimit → ReadFault → Fault
 reading_fault limit reads.Failed = Read
 reading_fault limit reads.TooLong = limit.fault
-reading_fault limit reads.Memory = Memory
+reading_fault limit (reads.Memory _) = Memory _

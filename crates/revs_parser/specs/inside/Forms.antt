@@ -379,4 +379,4 @@ pub record Left (tokens : List Token) (left : ℕ) (Why : ℕ → Place → Type
 abbrev pub IsRefusal : List Token → Stop → Type 0
 IsRefusal tokens (stops.Syntax left) = Left tokens left (IsSyntax tokens)
 IsRefusal tokens (stops.Nesting left) = Left tokens left (λ number at. IsNesting tokens at)
-IsRefusal tokens stops.Memory = Unit {0}
+IsRefusal tokens (stops.Memory _) = Unit {0}

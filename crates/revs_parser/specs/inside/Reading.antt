@@ -50,7 +50,7 @@ ReadsForm f l v ts rest = Reads (form f l ∷ []) (v, tt) ts rest
 abbrev pub IsHalt : Stop → Outcome → Type 0
 IsHalt (stops.Syntax left) o = o ≡ no_syntax left
 IsHalt (stops.Nesting left) o = o ≡ too_deep left
-IsHalt stops.Memory o = Unit {0}
+IsHalt (stops.Memory _) o = Unit {0}
 
 -- The machine that expects these symbols in front of anything halts so.
 pub record Halts (es : Stack) (ts : List Token) (stop : Stop) : Type 0 where
@@ -72,7 +72,7 @@ GivesForm f l seen ts result = Gives (λ x. ReadsForm f l (seen x)) (form f l �
 
 -- What is made is as it says, or memory is wanting.
 abbrev pub Makes : {T : Type 0} → (T → Type 0) → Result T Stop → Type 0
-Makes made result = MatchResult result made (λ stop. stop ≡ stops.Memory)
+Makes made result = MatchResult result made (λ stop. stop ≡ stops.Memory _)
 
 -- A form of this kind was read, whatever its profile and its level.
 pub record ReadsAnywhere (k : Kind) (v : KindVal k) (ts rest : List Token) : Type 0 where
@@ -94,7 +94,7 @@ pub record Puts {T R : Type 0} (old new : List T) (read : Result (T × R) Stop) 
 
 -- Nothing was read, or the memory for it was wanting.
 abbrev pub Lacks : {A : Type 0} → Result A Stop → Stop → Type 0
-Lacks read stop = (read ≡ Err stop) ⊎ (stop ≡ stops.Memory)
+Lacks read stop = (read ≡ Err stop) ⊎ (stop ≡ stops.Memory _)
 
 -- A token of this kind and this place stands first, and the rest behind it.
 pub record Heads (k : Tok) (at : Place) (ts rest : List Token) : Type 0 where

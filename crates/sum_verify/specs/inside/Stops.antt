@@ -7,4 +7,4 @@ use Rattle.sum_verify.specs.declared.fault.Stop.TheVariants as stops
 -- a table that is at its limits leaves the circuit unsettled
 abbrev pub stop_of : ProductsFault → Stop
 stop_of products.Limit = stops.Unsettled
-stop_of products.Memory = stops.Memory
+stop_of (products.Memory _) = stops.Memory _

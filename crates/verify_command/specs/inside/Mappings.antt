@@ -12,7 +12,7 @@ comparing_fault circuit (faults.Lines need) = FewLines circuit.lines need
 comparing_fault circuit (faults.Gate gate) = WideGate (gate + 1)
 comparing_fault circuit (faults.Diagram nodes) = CircuitDiagram nodes
 comparing_fault circuit (faults.Differs line bits) = Differs (line + 1) bits
-comparing_fault circuit faults.Memory = Memory
+comparing_fault circuit (faults.Memory _) = Memory _
 
 -- the gate or the line that is named is one of the circuit
 abbrev pub IsNamedIn : CircuitView → VerifyFault → Type 0

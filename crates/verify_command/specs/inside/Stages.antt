@@ -10,7 +10,7 @@ use Rattle.revs_tape.specs.Tapes.{TapeView}
 use Rattle.verify_command.specs.Verify.{StopsComparing, StopsParts}
 
 abbrev pub IsPartsFault : OrderView → List ℕ → List ℕ → Fault → Type 0
-IsPartsFault order program circuit Memory = Unit {0}
+IsPartsFault order program circuit (Memory _) = Unit {0}
 IsPartsFault order program circuit fault = StopsParts order fault program circuit
 
 -- a circuit beside the tape of a program, as the order asks
@@ -19,7 +19,7 @@ comparison_with order tape circuit = beside (of_tape tape) circuit order.outputs
 
 -- why the two are not verified, or there was no memory left
 abbrev pub IsComparingFault : OrderView → Fault → Comparison → Type 0
-IsComparingFault order Memory q = Unit {0}
+IsComparingFault order (Memory _) q = Unit {0}
 IsComparingFault order fault q = StopsComparing order fault q
 
 -- sums verify a circuit, or leave one that can be compared unsettled

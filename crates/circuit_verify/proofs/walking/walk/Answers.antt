@@ -85,5 +85,5 @@ returns-clause-ends c =
 
 pub returns-in_err-lines-clause-memory : goal.returns-in_err-lines-clause-memory
 returns-in_err-lines-clause-memory c =
-    one_fault faults.Memory c.from_residual.result c.from_residual.ensures.1
+    one_fault (faults.Memory _) c.from_residual.result c.from_residual.ensures.1
     (λ is. refused_room _ c.flipped_line.new.diagram c.in_err-lines.field-0.0 is c.in_err-lines.ensures.refused)

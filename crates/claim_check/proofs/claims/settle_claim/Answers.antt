@@ -46,7 +46,7 @@ returns-in-Err-clause-refused c =
 
 pub returns-in-Err-clause-memory : goal.returns-in-Err-clause-memory
 returns-in-Err-clause-memory c =
-    λ is. let same : c.claim_fault.result ≡ faults.Memory = cc in
+    λ is. let same : c.claim_fault.result ≡ faults.Memory _ = cc in
     inl (wanted_room c.args.tape.now c.args.number (c.args.number + 1) c.number_claim.new.diagram c.in-Err.fault (sym c.claim_fault.ensures ∙ same)
     c.in-Err.ensures.refused)
 
