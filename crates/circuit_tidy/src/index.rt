@@ -195,7 +195,7 @@ impl Places {
     }
 }
 
-fn empty_lists(alloc: Global, count: u32) -> Result<Vec<Vec<usize>>, Memory>
+pub fn empty_lists(alloc: Global, count: u32) -> Result<Vec<Vec<usize>>, Memory>
     ensures { IfOk result (λ lists. contents lists.items ≡ replicate count []) }
 {
     let mut lists = Vec::with_capacity(alloc, count as usize)?;

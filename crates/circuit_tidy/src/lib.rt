@@ -5,6 +5,7 @@
 mod blocks;
 mod flip;
 mod index;
+mod looks;
 mod marks;
 mod rows;
 mod spans;

@@ -24,11 +24,12 @@ const NEW: u8 = 16;
 // A flip of the line behind those that were passed over can come to the change.
 const OPEN: u8 = 32;
 
-/// The lines of a change, with what the flips behind it that were passed over have of them; and
-/// where these begin among the flips that were walked over, once they are so.
+/// The lines of the last change, with what the flips behind it that were passed over have of them;
+/// and where these begin among the flips that were walked over, once they are so.
 #[derive(Drop)]
 pub struct Marks {
     words: Vec<u8>,
+    lines: Vec<u32>,
     open_lines: usize,
     passed: usize,
 }
@@ -40,6 +41,7 @@ impl Marks {
         let words = vec![in alloc; 0; lines as usize]?;
         Ok(Marks {
             words,
+            lines: Vec::new(alloc),
             open_lines: 0,
             passed: 0,
         })
@@ -50,6 +52,16 @@ impl Marks {
         ensures { IsTrue result ↔ (0 < self.now.open_lines) }
     {
         self.open_lines > 0
+    }
+
+    // The lines of the change.
+    pub fn lines(&self) -> &[u32] {
+        &self.lines
+    }
+
+    // Whether a flip of the line can still come to the change.
+    pub fn is_open(&self, line: u32) -> bool {
+        self.has(line, OPEN)
     }
 
     // Whether the flip has a line on which one can still come to the change.
@@ -101,18 +113,34 @@ impl Marks {
     }
 
     // A block gives way to new flips.
-    pub fn change(&mut self, block: &[Flip], new: &[Flip]) {
+    pub fn change(&mut self, block: &[Flip], new: &[Flip]) -> Result<(), Memory> {
+        self.clear();
         for flip in block {
-            self.free(*flip);
+            self.free(*flip)?;
         }
         for flip in new {
-            self.renew(*flip);
+            self.renew(*flip)?;
         }
+        Ok(())
+    }
+
+    // There is no line of a change.
+    fn clear(&mut self) {
+        for at in 0..self.lines.len() {
+            let place = self.lines[at] as usize;
+            if place < self.words.len() {
+                self.words[place] = 0;
+            }
+        }
+        self.lines.clear();
+        self.open_lines = 0;
     }
 
     // The flip goes: those that it stopped are freed.
-    pub fn free(&mut self, flip: Flip) {
+    pub fn free(&mut self, flip: Flip) -> Result<(), Memory> {
+        self.list(flip)?;
         self.add_lines(flip, FREED_CONTROL, FREED_TARGET, true);
+        Ok(())
     }
 
     // The flips that are passed over begin behind so many.
@@ -122,20 +150,23 @@ impl Marks {
 
     // The flip goes, with the one at a place, behind flips that were passed over and now are walked
     // over.
-    pub fn free_behind(&mut self, flip: Flip, place: usize, walked: &[Flip]) {
+    pub fn free_behind(&mut self, flip: Flip, place: usize, walked: &[Flip]) -> Result<(), Memory> {
         if place < self.passed {
             self.passed -= 1;
         }
-        self.free(flip);
+        self.free(flip)?;
         let (_, passed) = walked.split_at(self.passed.min(walked.len()));
         for other in passed {
             self.pass(*other);
         }
+        Ok(())
     }
 
     // The flip is new.
-    fn renew(&mut self, flip: Flip) {
+    fn renew(&mut self, flip: Flip) -> Result<(), Memory> {
+        self.list(flip)?;
         self.add_lines(flip, NEW, NEW, true);
+        Ok(())
     }
 
     // The flip is passed over: lines of the change note it.
@@ -147,6 +178,26 @@ impl Marks {
         ensures { result ≡ slice_index self.now.words.items line }
     {
         self.words.get(line as usize).copied().unwrap_or(0)
+    }
+
+    // The lines of the flip are lines of the change.
+    fn list(&mut self, flip: Flip) -> Result<(), Memory> {
+        self.list_line(flip.target)?;
+        match flip.controls {
+            Controls::Zero => Ok(()),
+            Controls::One(one) => self.list_line(one),
+            Controls::Two(first, second) => {
+                self.list_line(first)?;
+                self.list_line(second)
+            }
+        }
+    }
+
+    fn list_line(&mut self, line: u32) -> Result<(), Memory> {
+        if self.word_of(line) == 0 {
+            self.lines.push(line)?;
+        }
+        Ok(())
     }
 
     // Notes a flip on its lines, or only on those that are lines of the change already.
@@ -197,7 +248,7 @@ fn with_openness(word: u8) -> u8 {
 }
 
 // How many kinds of flips are told apart.
-const MOST_KINDS: usize = 1 << 18;
+pub const MOST_KINDS: usize = 1 << 18;
 
 /// How many flips of each kind there are; two kinds may share their number.
 #[derive(Drop)]
@@ -247,7 +298,7 @@ impl Kinds {
 }
 
 // The same of flips that are alike.
-fn kind_of(flip: Flip) -> usize
+pub fn kind_of(flip: Flip) -> usize
     ensures { result < MOST_KINDS }
 {
     let (sum, product) = match flip.controls {

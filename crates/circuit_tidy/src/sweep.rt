@@ -11,6 +11,7 @@ ghost use Rattle.circuit_tidy.specs.inside.Work.{IsSwept};
 
 use crate::blocks::{Longer, front_of};
 use crate::flip::Flip;
+use crate::looks::{Latest, OnLines};
 use crate::marks::{Kinds, Marks};
 use crate::spans::Spans;
 use revc_base::Memory;
@@ -19,16 +20,22 @@ use std::alloc::Global;
 // How many blocks a sweep looks at.
 const MOST_TURNS: u32 = 1 << 30;
 
+// How many flips that come next are looked at one after another, for each line of a change.
+const NEAR_FOR_EACH_LINE: usize = 4;
+
 /// Flips that were walked over, and flips of which those from a place on are still to come, with
-/// what the walk found of both.
+/// what the walk found of both. Behind a place they stand where they stood at the start.
 #[derive(Drop)]
 pub struct Sweep {
     done: Vec<Flip>,
     behind: Spans,
     kinds: Kinds,
+    latest: Latest,
     flips: Vec<Flip>,
     ahead: Spans,
     at: usize,
+    on_lines: OnLines,
+    kept: usize,
 }
 
 // The flips, walked over from the start: the first block that is longer than its elimination gives
@@ -42,38 +49,54 @@ pub fn swept(
     requires { IsLongerIn flips.items first.now }
     ensures { IfOk result (λ swept. IsSwept flips.items swept.items) }
 {
-    let mut sweep = Sweep::new(alloc, flips)?;
-    sweep.take(first.start)?;
-    sweep.give_way(alloc, lines, first.end - first.start, &first.shorter)?;
-    for _turn in 0..MOST_TURNS {
-        if sweep.at == sweep.flips.len() {
-            break;
-        }
-        sweep.walk_on(alloc, lines)?;
-    }
-    let left = sweep.flips.len() - sweep.at;
-    sweep.take(left)?;
+    let mut sweep = Sweep::new(alloc, lines, flips)?;
+    sweep.walk_over_all(alloc, lines, first)?;
     Ok(sweep.done)
 }
 
 impl Sweep {
-    fn new(alloc: Global, flips: Vec<Flip>) -> Result<Sweep, Memory>
+    fn new(alloc: Global, lines: u32, flips: Vec<Flip>) -> Result<Sweep, Memory>
         ensures { IfOk result (IsBegun flips.items) }
     {
         let mut kinds = Kinds::new(alloc)?;
         kinds.add_all(&flips);
+        let latest = Latest::new(alloc, lines, flips.len())?;
+        let on_lines = OnLines::new(alloc, lines, &flips)?;
         Ok(Sweep {
             done: Vec::new(alloc),
             behind: Spans::new(alloc),
             kinds,
+            latest,
             flips,
             ahead: Spans::new(alloc),
             at: 0,
+            on_lines,
+            kept: 0,
         })
     }
 
+    // Over all flips, of which a block gives way first.
+    fn walk_over_all(&mut self, alloc: Global, lines: u32, first: &Longer) -> Result<(), Memory>
+        requires begun { IsBegun self.old.flips.items self.old }
+        requires longer { IsLongerIn self.old.flips.items first.now }
+        ensures { OnOk result (IsSwept self.old.flips.items self.new.done.items) }
+    {
+        let mut marks = Marks::new(alloc, lines)?;
+        self.take(first.start)?;
+        self.give_way(&mut marks, first.end - first.start, &first.shorter)?;
+        for _turn in 0..MOST_TURNS {
+            if self.at == self.flips.len() {
+                break;
+            }
+            self.walk_on(alloc, &mut marks)?;
+        }
+        let left = self.flips.len() - self.at;
+        self.take(left)?;
+        Ok(())
+    }
+
     // Over what comes next, if a look at it would find nothing, or on to a block that gives way.
-    fn walk_on(&mut self, alloc: Global, lines: u32) -> Result<(), Memory>
+    fn walk_on(&mut self, alloc: Global, marks: &mut Marks) -> Result<(), Memory>
         requires { self.old.at < length self.old.flips.items }
         ensures { OnOk result (Leads self.old self.new) }
     {
@@ -82,7 +105,7 @@ impl Sweep {
             self.take_block(known)?;
             return Ok(());
         }
-        self.walk_over_block(alloc, lines)?;
+        self.walk_over_block(alloc, marks)?;
         Ok(())
     }
 
@@ -103,7 +126,7 @@ impl Sweep {
     }
 
     // Over the block that comes next, or back behind it where it gives way.
-    fn walk_over_block(&mut self, alloc: Global, lines: u32) -> Result<(), Memory>
+    fn walk_over_block(&mut self, alloc: Global, marks: &mut Marks) -> Result<(), Memory>
         requires { self.old.at < length self.old.flips.items }
         ensures { OnOk result (Leads self.old self.new) }
     {
@@ -112,7 +135,7 @@ impl Sweep {
         let count = front.length;
         match front.shorter {
             Some(shorter) => {
-                self.give_way(alloc, lines, count, &shorter)?;
+                self.give_way(marks, count, &shorter)?;
                 Ok(())
             }
             None => self.take_block(count),
@@ -121,13 +144,7 @@ impl Sweep {
 
     // The elimination in place of the block that comes next; then the walk goes back to the first
     // block that may have changed.
-    fn give_way(
-        &mut self,
-        alloc: Global,
-        lines: u32,
-        count: usize,
-        shorter: &[Flip],
-    ) -> Result<(), Memory>
+    fn give_way(&mut self, marks: &mut Marks, count: usize, shorter: &[Flip]) -> Result<(), Memory>
         requires within { self.old.at + count ≤ length self.old.flips.items }
         requires longer { IsLonger (take count (drop self.old.at self.old.flips.items))
             shorter.now }
@@ -135,12 +152,11 @@ impl Sweep {
     {
         let (_, rest) = self.flips.split_at(self.at);
         let (block, _) = rest.split_at(count);
-        let mut marks = Marks::new(alloc, lines)?;
-        marks.change(block, shorter);
+        marks.change(block, shorter)?;
         let start = self.done.len();
         self.replace(count, shorter)?;
         self.go_back(start);
-        let least = self.settle(&mut marks, shorter.len())?;
+        let least = self.settle(marks, shorter.len())?;
         self.go_back_to_block(least)?;
         Ok(())
     }
@@ -189,12 +205,14 @@ impl Sweep {
         requires { IsWithin self.old }
         ensures { Stays self.old self.new }
     {
+        self.kept = self.kept.max(self.at);
         for _step in to..self.done.len() {
             if self.at == 0 {
                 break;
             }
             self.step_back();
         }
+        self.latest.go_back(self.done.len());
     }
 
     fn step_back(&mut self)
@@ -258,10 +276,10 @@ impl Sweep {
             return Ok(place);
         }
         let flip = self.flips[self.at];
-        let cancelled = self.cancel(self.at)?;
+        let cancelled = self.cancel_new(flip)?;
         match cancelled {
             Some(other) => {
-                marks.free(flip);
+                marks.free(flip)?;
                 Ok(other)
             }
             None => {
@@ -269,6 +287,18 @@ impl Sweep {
                 Ok(place)
             }
         }
+    }
+
+    // Takes out the next flip with one like it, if that may be.
+    fn cancel_new(&mut self, flip: Flip) -> Result<Option<usize>, Memory>
+        requires { self.old.at < length self.old.flips.items }
+        ensures { OnOk result (Leads self.old self.new) }
+    {
+        self.latest.note_all(&self.done);
+        if self.latest.keep_apart(flip, &self.done) {
+            return Ok(None);
+        }
+        self.cancel(self.at)
     }
 
     fn take_next(&mut self) -> Result<(), Memory>
@@ -288,14 +318,47 @@ impl Sweep {
     {
         let mut least = self.done.len();
         marks.begin(least);
-        for next in self.at..self.flips.len() {
-            if !marks.are_open() {
+        let mut next = self.at;
+        for _flip in self.at..self.flips.len() {
+            next = self.next_touched(marks, next);
+            if self.flips.len() <= next {
                 break;
             }
             let changed = self.meet(marks, next)?;
             least = least.min(changed);
+            next += 1;
         }
         Ok(least)
+    }
+
+    // The next place, from one on, of a flip on a line on which one can still come to the change,
+    // or the end. Flips that are near are looked at one after another.
+    fn next_touched(&self, marks: &Marks, from: usize) -> usize {
+        if !marks.are_open() {
+            return self.flips.len();
+        }
+        let near = NEAR_FOR_EACH_LINE.saturating_mul(marks.lines().len());
+        let behind = self.kept.max(from).saturating_add(near);
+        for place in from..behind.min(self.flips.len()) {
+            if marks.touch(self.flips[place]) {
+                return place;
+            }
+        }
+        self.first_touched(marks, behind)
+    }
+
+    // The same, of flips that stand where they stood at the start.
+    fn first_touched(&self, marks: &Marks, from: usize) -> usize {
+        let mut first = self.flips.len();
+        for line in marks.lines() {
+            if !marks.is_open(*line) {
+                continue;
+            }
+            if let Some(place) = self.on_lines.first_from(from, *line) {
+                first = first.min(place);
+            }
+        }
+        first
     }
 
     // Takes out a flip that is still to come, if it was freed and has one like it.
@@ -315,7 +378,7 @@ impl Sweep {
         let cancelled = self.cancel(next)?;
         match cancelled {
             Some(other) => {
-                marks.free_behind(flip, other, &self.done);
+                marks.free_behind(flip, other, &self.done)?;
                 Ok(other)
             }
             None => {
@@ -374,6 +437,7 @@ impl Sweep {
     {
         let other = self.done.remove(place);
         self.kinds.remove_all(&[other, other]);
+        self.latest.close(place);
         self.behind.close(place);
         self.ahead.open(self.at);
         self.at += 1;

@@ -1,24 +1,15 @@
-use Rattle.std.proofs.Common.{◌-◌, ap, length, arith}
-use Rattle.circuit_tidy.proofs.SweepLemmas.{same_contents, swept_at_last, swept_first, swept_further, takes_stays}
+use Rattle.std.proofs.Common.{refl, subst, sym}
+use Rattle.circuit_tidy.specs.inside.Walking.{IsLongerIn}
+use Rattle.circuit_tidy.specs.inside.Work.{IsSwept}
 use Rattle.circuit_tidy.proofs.sweep.swept.Goals as goal
 
-pub loop-turn-init : goal.loop-turn-init
-loop-turn-init c =
-    let flips = c.args.flips.items in
+pub walk_over_all-requires-clause-begun : goal.walk_over_all-requires-clause-begun
+walk_over_all-requires-clause-begun c =
     let begun = c.in_ok-sweep.ensures in
-    let goes = c.in_ok-give_way.ensures in
-    let stays = takes_stays c.args.first.now.start c.in_ok-sweep.sweep c.take.new.self
-    (omega (arith, begun.start, ap length begun.all, c.requires.ordered, c.requires.within)) c.in_ok-take.ensures in
-    (goes.within, swept_first flips c.take.new.self c.give_way.new.self (same_contents flips c.in_ok-sweep.sweep c.take.new.self begun stays) goes)
+    record { none = begun.none; all = refl; start = begun.start }
 
-pub loop-turn-preserved : goal.loop-turn-preserved
-loop-turn-preserved c =
-    let leads = c.in_ok-walk_on.ensures in
-    (leads.within, swept_further c.args.flips.items c.loop-turn.sweep c.walk_on.new.self c.loop-turn.invariant.1 leads)
+pub walk_over_all-requires-clause-longer : goal.walk_over_all-requires-clause-longer
+walk_over_all-requires-clause-longer c = subst (λ flips. IsLongerIn flips c.args.first.now) (sym c.in_ok-sweep.ensures.all) c.requires
 
 pub returns : goal.returns
-returns c =
-    let sweep = c.loop-turn.sweep in
-    swept_at_last c.args.flips.items sweep c.take-2.new.self (c.len-2.result - sweep.at)
-    (let within = c.loop-turn.invariant.0 in let size = c.len-2.ensures in let ok = sweep.flips.ok.0 in omega arith) c.loop-turn.invariant.1
-    c.in_ok-take-2.ensures
+returns c = subst (λ flips. IsSwept flips c.walk_over_all.new.self.done.items) c.in_ok-sweep.ensures.all c.in_ok-walk_over_all.ensures
