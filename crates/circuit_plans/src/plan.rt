@@ -136,6 +136,13 @@ impl Planned {
         &self.circuit
     }
 
+    /// The circuit alone. It takes no memory.
+    pub fn into_circuit(self) -> Circuit
+        ensures { result ≡ self.circuit }
+    {
+        self.circuit
+    }
+
     /// The number of input lines.
     pub fn inputs(&self) -> u32
         ensures { result ≡ self.now.inputs }

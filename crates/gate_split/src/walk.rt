@@ -1,12 +1,13 @@
 // The gates in place of those of a circuit.
 ghost use Rattle.std.specs.Prelude.{◌≡◌, ◌≢◌, ℕ, ◌≤◌, List, Bool, length, Some, None, IfOk, IsErrOf};
-ghost use Rattle.mct_circuit.specs.Gates.{AreGatesOn, line_map};
+ghost use Rattle.mct_circuit.specs.Gates.{AreGatesOn, AreNarrow, line_map};
 ghost use Rattle.gate_split.specs.Split.{HasSplitList, IsSplitList, PassesLimit, WantsIdle};
 ghost use Rattle.gate_split.specs.Split.{split_gates};
 
 use crate::counting::decide;
 use crate::fault::SplitFault;
 use crate::idle::LineMarks;
+use crate::narrow::are_narrow;
 use crate::piece::push_piece;
 use circuit_plans::Narrow;
 use mct_circuit::{Circuit, Gate, GateFault};
@@ -41,6 +42,49 @@ pub fn split(alloc: Global, circuit: &Circuit, lines: u32, limit: u64) -> Result
         Ok(()) => Ok(Narrow::new(narrow)),
         Err(GateFault::Full) => unreachable!(),
         Err(GateFault::Memory(memory)) => Err(SplitFault::Memory(memory)),
+    }
+}
+
+/// The circuit that [`split`] gives, of a circuit that is given up: where all its gates are narrow
+/// and within the limit, they are kept as they are, and none is copied.
+pub fn split_owned(
+    alloc: Global,
+    circuit: Circuit,
+    lines: u32,
+    limit: u64,
+) -> Result<Narrow, SplitFault>
+    requires { circuit.lines ≤ lines }
+    ensures gates { IfOk result (λ narrow. IsSplitList lines limit circuit.gates narrow.gates) }
+    ensures size { IfOk result (λ narrow. narrow
+        ≡ record { lines = lines; limit = limit; gates = narrow.gates }) }
+    ensures map { IfOk result (λ narrow. (bits : List Bool) → length bits ≡ lines
+        → line_map narrow.gates bits ≡ line_map circuit.gates bits) }
+    ensures no_idle { (gate : ℕ) → IsErrOf result (SplitFault.NoIdle gate)
+        → WantsIdle lines limit circuit.gates gate }
+    ensures over { IsErrOf result SplitFault.Gates → PassesLimit lines limit circuit.gates }
+    ensures memory { IsErrOf result (SplitFault.Memory _)
+        → HasSplitList lines limit circuit.gates }
+{
+    if circuit.len() <= limit && are_narrow(circuit.gates()) {
+        return Ok(widened(alloc, circuit, lines, limit)?);
+    }
+    split(alloc, &circuit, lines, limit)
+}
+
+// A circuit of narrow gates, with these limits.
+fn widened(alloc: Global, circuit: Circuit, lines: u32, limit: u64) -> Result<Narrow, Memory>
+    requires lines { circuit.lines ≤ lines }
+    requires few { length circuit.gates ≤ limit }
+    requires narrow { AreNarrow circuit.gates }
+    ensures { IfOk result (λ narrow. narrow
+        ≡ record { lines = lines; limit = limit; gates = circuit.gates }) }
+{
+    let mut gates = circuit.into_gates();
+    let mut narrow = Circuit::new(alloc, lines, limit);
+    match narrow.append(&mut gates) {
+        Ok(()) => Ok(Narrow::new(narrow)),
+        Err(GateFault::Full) => unreachable!(),
+        Err(GateFault::Memory(memory)) => Err(memory),
     }
 }
 

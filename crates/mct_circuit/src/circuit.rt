@@ -206,6 +206,14 @@ impl Circuit {
         &self.gates
     }
 
+    /// The gates alone, in order. It takes no memory.
+    pub fn into_gates(self) -> Vec<Gate>
+        ensures gates { result.items ≡ self.gates }
+        ensures placed { AreGatesOn self.lines self.gates }
+    {
+        self.gates
+    }
+
     /// The gate at place `i`, counted from 0. It takes no memory.
     pub fn gate(&self, i: u64) -> &Gate
         requires { i < length self.now.gates }
