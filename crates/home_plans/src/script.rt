@@ -118,7 +118,7 @@ impl Script {
     fn lines_of(&self, alloc: Global, product: &Product) -> Result<FactorLines, Memory> {
         let first = self.factor_lines(alloc, product.first())?;
         let second = self.factor_lines(alloc, product.second())?;
-        Ok(FactorLines { first, second })
+        Ok(FactorLines::new(alloc, first, second))
     }
 
     // The lines of a factor's bits, rising.

@@ -16,6 +16,10 @@ const MOST_COMPARED: usize = 64;
 pub struct FactorLines {
     pub first: Vec<u32>,
     pub second: Vec<u32>,
+    /// The nodes without products that are written out in each factor: their bits stand on its
+    /// lines in their places.
+    pub first_written: Vec<u32>,
+    pub second_written: Vec<u32>,
 }
 
 /// Of each line the lines that were gathered on it the last time.
@@ -58,19 +62,33 @@ impl Held {
         })?;
         Ok(gatherings)
     }
-
-    /// The lines of both factors behind the copies.
-    pub fn lines(&self, alloc: Global) -> Result<FactorLines, Memory> {
-        Ok(FactorLines {
-            first: Vec::from_slice(alloc, &[self.first])?,
-            second: Vec::from_slice(alloc, &[self.second])?,
-        })
-    }
 }
 
 impl FactorLines {
+    /// These lines, on which no node is written out.
+    pub fn new(alloc: Global, first: Vec<u32>, second: Vec<u32>) -> FactorLines {
+        FactorLines {
+            first,
+            second,
+            first_written: Vec::new(alloc),
+            second_written: Vec::new(alloc),
+        }
+    }
+
+    /// The lines of both factors become those behind the copies that gather them.
+    pub fn pass(&mut self, alloc: Global, held: &Held) -> Result<(), Memory> {
+        self.first = Vec::from_slice(alloc, &[held.first])?;
+        self.second = Vec::from_slice(alloc, &[held.second])?;
+        Ok(())
+    }
+
     fn has(&self, line: u32) -> bool {
         self.first.contains(&line) || self.second.contains(&line)
+    }
+
+    /// Whether a node is written out in it.
+    pub fn is_written(&self) -> bool {
+        !self.first_written.is_empty() || !self.second_written.is_empty()
     }
 }
 

@@ -6,6 +6,7 @@
 mod factors;
 mod lines;
 mod moves;
+mod names;
 mod scripts;
 mod shortening;
 mod writing;

@@ -1,6 +1,7 @@
 // Moves in the making.
 use crate::factors::{FactorLines, Habits, untangle};
 use crate::moves::{Gatherings, Moves};
+use crate::names::names_in;
 use revc_base::Memory;
 use span_rows::Stop;
 use std::alloc::Global;
@@ -36,57 +37,63 @@ impl Writing {
         mut products: Vec<FactorLines>,
         own: &[u32],
     ) -> Result<(), Stop> {
-        match products.first() {
-            Some(product) if products.len() == 1 => self.toggle_one(node, onto, product, own),
-            _ => self.toggle_all(node, onto, &mut products),
-        }
-    }
-
-    // A toggle of one product, whose factors are gathered by copies.
-    fn toggle_one(
-        &mut self,
-        node: u32,
-        onto: u32,
-        product: &FactorLines,
-        own: &[u32],
-    ) -> Result<(), Stop> {
-        let held = self.habits.held(self.alloc, product, own)?;
-        let gatherings = held.gatherings(self.alloc)?;
-        self.toggle_between(node, onto, gatherings, &held.copies, own)
-    }
-
-    // A toggle of any number of products: those that have lines of their own are gathered by
-    // copies, and the others for the moment of their flips.
-    fn toggle_all(
-        &mut self,
-        node: u32,
-        onto: u32,
-        products: &mut [FactorLines],
-    ) -> Result<(), Stop> {
         let mut copies = Vec::new(self.alloc);
-        self.gather_apart(products, &mut copies)?;
-        untangle(self.alloc, products, &mut copies)?;
-        let gatherings = self.gatherings(products)?;
-        self.toggle_between(node, onto, gatherings, &copies, &[])
+        let gatherings = if products.len() == 1 {
+            self.gather_one(&mut products, own, &mut copies)?
+        } else {
+            self.gather_all(&mut products, &mut copies)?
+        };
+        let names = names_in(self.alloc, &products)?;
+        copy_all(&mut self.moves, &copies)?;
+        self.toggle_between(node, onto, gatherings, &names)?;
+        copy_back(&mut self.moves, &copies, own)
     }
 
-    // A toggle between copies and the same backward, of which those to the lines `own` stay.
+    // Gathers one product by copies.
+    fn gather_one(
+        &mut self,
+        products: &mut [FactorLines],
+        own: &[u32],
+        copies: &mut Vec<(u32, u32)>,
+    ) -> Result<Vec<Gatherings>, Stop> {
+        let Some(product) = products.get_mut(0) else {
+            return Err(Stop::Lost);
+        };
+        let mut held = self.habits.held(self.alloc, product, own)?;
+        product.pass(self.alloc, &held)?;
+        copies.append(&mut held.copies)?;
+        held.gatherings(self.alloc).map_err(Stop::from)
+    }
+
+    // Gathers any number of products: those that have lines of their own by copies, and the others
+    // for the moment of their flips.
+    fn gather_all(
+        &mut self,
+        products: &mut [FactorLines],
+        copies: &mut Vec<(u32, u32)>,
+    ) -> Result<Vec<Gatherings>, Stop> {
+        self.gather_apart(products, copies)?;
+        untangle(self.alloc, products, copies)?;
+        self.gatherings(products).map_err(Stop::from)
+    }
+
+    // A toggle, for the moment of which nodes take the places of their bits on lines of factors.
     fn toggle_between(
         &mut self,
         node: u32,
         onto: u32,
         gatherings: Vec<Gatherings>,
-        copies: &[(u32, u32)],
-        own: &[u32],
+        names: &[(u32, u32)],
     ) -> Result<(), Stop> {
-        for (from, to) in copies {
-            self.moves.copy(*from, *to)?;
-        }
+        self.name(names)?;
         self.moves.toggle(node, onto, gatherings)?;
-        for (from, to) in copies.iter().rev() {
-            if !own.contains(to) {
-                self.moves.copy(*from, *to)?;
-            }
+        self.name(names)
+    }
+
+    // Toggles nodes without products onto lines.
+    fn name(&mut self, names: &[(u32, u32)]) -> Result<(), Stop> {
+        for (node, line) in names {
+            self.moves.toggle(*node, *line, Vec::new(self.alloc))?;
         }
         Ok(())
     }
@@ -115,10 +122,27 @@ impl Writing {
             };
             let mut held = self.habits.held(self.alloc, product, &[])?;
             if held.is_apart(products, k) {
-                products[k] = held.lines(self.alloc)?;
+                products[k].pass(self.alloc, &held)?;
                 copies.append(&mut held.copies)?;
             }
         }
         Ok(())
     }
+}
+
+fn copy_all(moves: &mut Moves, copies: &[(u32, u32)]) -> Result<(), Stop> {
+    for (from, to) in copies {
+        moves.copy(*from, *to)?;
+    }
+    Ok(())
+}
+
+// The same backward, but for the copies to the lines `own`.
+fn copy_back(moves: &mut Moves, copies: &[(u32, u32)], own: &[u32]) -> Result<(), Stop> {
+    for (from, to) in copies.iter().rev() {
+        if !own.contains(to) {
+            moves.copy(*from, *to)?;
+        }
+    }
+    Ok(())
 }

@@ -296,12 +296,15 @@ impl Replay<'_> {
         Ok(lines)
     }
 
-    fn factor_lines(&self, toggle: &Toggle) -> Result<Vec<FactorLines>, Memory> {
+    fn factor_lines(&self, toggle: &Toggle) -> Result<Vec<FactorLines>, Stop> {
+        let node = self.graph.node(toggle.node)?;
         let mut products = Vec::new(self.alloc);
-        for factors in &toggle.factors {
+        for (factors, product) in toggle.factors.iter().zip(&node.products) {
             products.push(FactorLines {
                 first: self.rows.all(self.alloc, &factors.first)?,
                 second: self.rows.all(self.alloc, &factors.second)?,
+                first_written: Vec::from_slice(self.alloc, &product.first_written)?,
+                second_written: Vec::from_slice(self.alloc, &product.second_written)?,
             })?;
         }
         Ok(products)

@@ -1,7 +1,7 @@
 // Which schedule is swept for the best plan.
 use revc_base::Memory;
 use span_rows::Stop;
-use span_sweeps::{Event, Range, SpanGraph, Swept, chains, minima, schedule, sweep};
+use span_sweeps::{Event, Range, SpanGraph, Swept, Turn, chains, minima, schedule, sweep};
 use std::alloc::Global;
 
 /// The most work that all sweeps of a search take together: the symbols that they add, and what
@@ -12,7 +12,7 @@ const MOST_WORK: u64 = 250_000_000;
 const TURN: u64 = 16;
 
 /// The most symbols that one sweep adds.
-const MOST_SWEPT: u64 = 50_000_000;
+pub const MOST_SWEPT: u64 = 50_000_000;
 
 /// How many additions the row of a node without products may take before it gets a line of its own.
 const MOST_ADDITIONS: usize = 4;
@@ -153,6 +153,15 @@ struct Outcome {
     toffoli: u64,
 }
 
+/// A sweep, with what it went over.
+#[derive(Drop)]
+pub struct Found {
+    pub swept: Swept,
+    pub turns: Vec<Turn>,
+    /// Of each node, whether its rows had to have no other symbol.
+    pub forced: Vec<bool>,
+}
+
 // The best sweep so far.
 #[derive(Drop)]
 struct Search<'g> {
@@ -162,13 +171,13 @@ struct Search<'g> {
     ports: u32,
     /// How many work lines there may be.
     room: u32,
-    best: Option<(Cost, Swept)>,
+    best: Option<(Cost, Found)>,
     spent: u64,
 }
 
 /// The best sweep that fits `room` work lines beside `ports` other lines: first without cleaning,
 /// and where that takes too many lines, with as few segments cleaned as there have to be.
-pub fn best_sweep(alloc: Global, graph: &SpanGraph, ports: u32, room: u32) -> Result<Swept, Stop> {
+pub fn best_sweep(alloc: Global, graph: &SpanGraph, ports: u32, room: u32) -> Result<Found, Stop> {
     let mut search = Search {
         alloc,
         graph,
@@ -182,7 +191,7 @@ pub fn best_sweep(alloc: Global, graph: &SpanGraph, ports: u32, room: u32) -> Re
         return Err(Stop::Memory(memory));
     }
     match search.best {
-        Some((_, swept)) => Ok(swept),
+        Some((_, found)) => Ok(found),
         None => Err(Stop::Lost),
     }
 }
@@ -345,13 +354,14 @@ impl Search<'_> {
         cleaned: usize,
         blocks: &[Range],
     ) -> Result<(Outcome, bool), Stop> {
-        let mut swept = self.sweep(rule, cleaned, blocks)?;
+        let mut found = self.sweep(rule, cleaned, blocks)?;
+        let swept = &mut found.swept;
         let is_new = rule.learn(self.graph, &swept.events, most);
         rule.ranks = std::mem::replace(&mut swept.ranks, Vec::new(self.alloc));
-        Ok((self.judge(swept), is_new))
+        Ok((self.judge(found), is_new))
     }
 
-    fn sweep(&mut self, rule: &Rule, cleaned: usize, blocks: &[Range]) -> Result<Swept, Stop> {
+    fn sweep(&mut self, rule: &Rule, cleaned: usize, blocks: &[Range]) -> Result<Found, Stop> {
         let Some(left) = MOST_WORK.checked_sub(self.spent) else {
             return Err(Stop::Lost);
         };
@@ -368,12 +378,17 @@ impl Search<'_> {
         let passing = (turns.len() as u64).saturating_mul(TURN);
         let work = swept.work.saturating_add(passing);
         self.spent = self.spent.saturating_add(work);
-        Ok(swept)
+        let forced = Vec::from_slice(self.alloc, &rule.forced)?;
+        Ok(Found {
+            swept,
+            turns,
+            forced,
+        })
     }
 
     // Keeps a sweep that fits and is better than the best so far.
-    fn judge(&mut self, swept: Swept) -> Outcome {
-        let measures = swept.measures;
+    fn judge(&mut self, found: Found) -> Outcome {
+        let measures = found.swept.measures;
         let lines = self.ports.saturating_add(measures.work);
         let gates = measures.toffoli.saturating_add(measures.cx);
         let cost = (
@@ -387,7 +402,7 @@ impl Search<'_> {
             None => true,
         };
         if fits && is_better {
-            self.best = Some((cost, swept));
+            self.best = Some((cost, found));
         }
         Outcome {
             fits,

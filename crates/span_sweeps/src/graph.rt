@@ -6,6 +6,9 @@ use span_rows::{Stop, at};
 pub struct Product {
     pub first: Vec<u32>,
     pub second: Vec<u32>,
+    /// The nodes without products that were written out in each factor, by their names.
+    pub first_written: Vec<u32>,
+    pub second_written: Vec<u32>,
 }
 
 /// What is toggled as one: a node of the graph of sums, or the products of an output.

@@ -12,6 +12,7 @@ mod order;
 mod outputs;
 mod schedules;
 mod sweeping;
+mod thinning;
 mod toggles;
 
 pub use events::{End, Event, Factors, Toggle};

@@ -79,7 +79,12 @@ fn products_of(alloc: Global, order: &Order, sum: &Sum) -> Result<Vec<Product>, 
 fn product_of(alloc: Global, order: &Order, product: &bit_sums::Product) -> Result<Product, Stop> {
     let first = order.vector(alloc, product.first())?;
     let second = order.vector(alloc, product.second())?;
-    Ok(Product { first, second })
+    Ok(Product {
+        first,
+        second,
+        first_written: Vec::new(alloc),
+        second_written: Vec::new(alloc),
+    })
 }
 
 // Marks the nodes that only outputs want.
