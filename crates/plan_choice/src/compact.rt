@@ -48,7 +48,7 @@ fn or_found(
     ensures { IsCompactSearch graph.now budget.now result }
 {
     match found {
-        Some(planned) => smaller_of(tried, lay_narrow(alloc, &planned, budget)?),
+        Some(planned) => smaller_of(tried, lay_narrow(alloc, planned, budget)?),
         None => tried,
     }
 }

@@ -15,7 +15,7 @@ ghost use Rattle.plan_choice.specs.inside.Tried.{IsSplitFault, is_refusal};
 
 use circuit_plans::{Budget, Laid, PlanFault, Planned, clean_circuits_borrow};
 use claim_check::Settled;
-use gate_split::{SplitFault, narrow_stay, roomy_flips_are_split, split};
+use gate_split::{SplitFault, narrow_stay, roomy_flips_are_split, split_owned};
 use std::alloc::Global;
 use sum_graph::SumGraph;
 
@@ -32,7 +32,7 @@ pub fn lay_eager(alloc: Global, graph: &Settled, plain: &SumGraph, budget: &Budg
     // This call says into how many gates flips with room are split.
     roomy_flips_are_split();
     let planned = eager_cleanup::plan(alloc, graph, plain, budget)?;
-    lay(alloc, &planned, budget)
+    lay(alloc, planned, budget)
 }
 
 // The pebbling plan down to blocks of `block` nodes, laid.
@@ -50,14 +50,14 @@ pub fn lay_blocks(
     ensures refused { IfErr result (IsPebblingFault graph.now block budget.now) }
 {
     let planned = bennett_pebbling::plan(alloc, plain, block, budget)?;
-    lay_narrow(alloc, &planned, budget)
+    lay_narrow(alloc, planned, budget)
 }
 
 // A plan of narrow gates within the budget, laid: its gates stay as they are.
-pub fn lay_narrow(alloc: Global, planned: &Planned, budget: &Budget) -> Tried
-    requires within { IsInBudget budget.now planned.now }
-    requires narrow { AreNarrow planned.now.circuit.gates }
-    ensures ok { IfOk result (IsLaidAsIs planned.now budget.now) }
+pub fn lay_narrow(alloc: Global, planned: Planned, budget: &Budget) -> Tried
+    requires within { IsInBudget budget.now planned }
+    requires narrow { AreNarrow planned.circuit.gates }
+    ensures ok { IfOk result (IsLaidAsIs planned budget.now) }
     ensures memory { IfErr result (λ fault. fault ≡ Memory _) }
 {
     // This call says that narrow gates stay as they are.
@@ -75,12 +75,12 @@ pub fn is_refused(tried: &Tried) -> bool
 }
 
 // The plan with its gates split.
-fn lay(alloc: Global, planned: &Planned, budget: &Budget) -> Tried
-    requires lines { planned.now.circuit.lines + budget.now.borrow ≤ budget.now.lines }
-    requires roomy { AllByRecursion (IsRoomyFlip planned.now.circuit.lines)
-        planned.now.circuit.gates }
-    ensures ok { IfOk result (IsLaidOf planned.now budget.now) }
-    ensures refused { IfErr result (IsSplitFault planned.now.circuit.gates budget.now) }
+fn lay(alloc: Global, planned: Planned, budget: &Budget) -> Tried
+    requires lines { planned.circuit.lines + budget.now.borrow ≤ budget.now.lines }
+    requires roomy { AllByRecursion (IsRoomyFlip planned.circuit.lines)
+        planned.circuit.gates }
+    ensures ok { IfOk result (IsLaidOf planned budget.now) }
+    ensures refused { IfErr result (IsSplitFault planned.circuit.gates budget.now) }
 {
     // These calls say that no flip wants an idle line, that the plan is clean beside borrowed
     // lines, and that the budget has few lines.
@@ -88,14 +88,9 @@ fn lay(alloc: Global, planned: &Planned, budget: &Budget) -> Tried
     clean_circuits_borrow();
     let _ = budget.lines();
     let lines = planned.circuit().lines() + budget.borrow();
-    match split(alloc, planned.circuit(), lines, budget.gates()) {
-        Ok(narrow) => Ok(Laid::new(
-            narrow,
-            planned.inputs(),
-            planned.outputs(),
-            planned.work(),
-            budget.borrow(),
-        )),
+    let (inputs, outputs, work) = (planned.inputs(), planned.outputs(), planned.work());
+    match split_owned(alloc, planned.into_circuit(), lines, budget.gates()) {
+        Ok(narrow) => Ok(Laid::new(narrow, inputs, outputs, work, budget.borrow())),
         Err(SplitFault::Gates) => Err(PlanFault::Gates),
         Err(SplitFault::Memory(memory)) => Err(PlanFault::Memory(memory)),
         Err(SplitFault::NoIdle { .. }) => unreachable!(),

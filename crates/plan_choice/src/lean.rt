@@ -23,7 +23,7 @@ pub fn lay_ready(alloc: Global, graph: &Settled, lean: &SumGraph, budget: &Budge
     ensures refused { IfErr result (IsReadyFault lean.now budget.now) }
 {
     let planned = ready_cleanup::plan(alloc, lean, budget)?;
-    lay_narrow(alloc, &planned, budget)
+    lay_narrow(alloc, planned, budget)
 }
 
 // The pebbling plan of a lean graph down to blocks of `block` nodes, laid.
@@ -40,7 +40,7 @@ pub fn lay_lean_blocks(
     ensures refused { IfErr result (IsPebblingFault lean.now block budget.now) }
 {
     let planned = bennett_pebbling::plan(alloc, lean, block, budget)?;
-    lay_narrow(alloc, &planned, budget)
+    lay_narrow(alloc, planned, budget)
 }
 
 // The first pebbling plan of a lean graph that fits the budget, of blocks from the least power of

@@ -9,10 +9,10 @@ lay-requires-clause-roomy c = narrow_roomy _ _ c.requires.narrow (rw c.circuit.e
 
 pub returns-clause-ok : goal.returns-clause-ok
 returns-clause-ok c =
-    let p = c.args.planned.now in let b = c.args.budget.now in
+    let p = c.args.planned in let b = c.args.budget.now in
     IfOk-weaker c.lay.result (IsLaidOf p b) (IsLaidAsIs p b) (λ laid is. as_is b p laid c.narrow_stay.ensures c.requires.narrow c.requires.within is)
     c.lay.ensures.ok
 
 pub returns-clause-memory : goal.returns-clause-memory
 returns-clause-memory c =
-    narrow_refused c.args.planned.now c.args.budget.now c.lay.result c.requires.narrow c.requires.within c.lay.ensures.refused
+    narrow_refused c.args.planned c.args.budget.now c.lay.result c.requires.narrow c.requires.within c.lay.ensures.refused
