@@ -1,5 +1,5 @@
 -- What a sink in memory surely takes, behind a call that did not fail.
-use Rattle.std.proofs.Common.{◌≡◌, ℕ, ◌++◌, List, true, false, length, refl, sym, subst, arith, length-append}
+use Rattle.std.proofs.Common.{◌≡◌, ℕ, ◌++◌, List, true, false, refl, sym, subst, arith, length-append}
 use Rattle.revc_io.specs.Held.{HandedOn, Took}
 use Rattle.revc_io.specs.Memory.{CallsView, FailsNoMore, SinkView, counted, held_by}
 

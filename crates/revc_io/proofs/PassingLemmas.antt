@@ -1,10 +1,10 @@
 -- A text that is written in pieces, through a buffer or past it.
-use Rattle.std.proofs.Common.{◌≡◌, ℕ, ◌+◌, ◌-◌, ◌≤◌, List, [], ◌++◌, length, take, drop, refl, sym, ap, subst, ◌∙◌, append_assoc, append-nil}
+use Rattle.std.proofs.Common.{◌≡◌, ℕ, ◌+◌, ◌-◌, List, [], ◌++◌, length, take, drop, refl, sym, ap, subst, ◌∙◌, append_assoc, append-nil}
 use Rattle.std.proofs.Common.{arith, length-append}
 use Rattle.std.proofs.lemmas.List.{take_rest, take-append-drop, nil_from_length}
 use Rattle.std.proofs.KnownBytes.{Appends-nil, Appends-trans, Appends-kept}
 use Rattle.std.specs.Prelude.{Result, Ok, Err, IsErrAnd}
-use Rattle.revc_io.specs.Held.{Flushes, HandedOn, Held, Took, TookFront, TookNone}
+use Rattle.revc_io.specs.Held.{Flushes, Held, Took, TookFront, TookNone}
 use Rattle.revc_io.specs.Passing.{Gathered, Gathers, Sends, Writes}
 
 -- ---- what a sink took

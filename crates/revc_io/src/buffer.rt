@@ -72,11 +72,12 @@ impl Buffer {
             (K.held out.new) self.old self.new piece.now }
         ensures cause { HasCause (K.faults out.old) (K.faults out.new) result }
     {
-        let (first, rest) = piece.split_at(piece.len().min(self.room()));
-        self.gather(first);
-        if rest.is_empty() {
+        if piece.len() <= self.room() {
+            self.gather(piece);
             return Ok(());
         }
+        let (first, rest) = piece.split_at(self.room());
+        self.gather(first);
         self.hand_on(out)?;
         if rest.len() < SIZE {
             self.gather(rest);
