@@ -16,7 +16,7 @@ use Rattle.list_facts.specs.Lists.{IsRising, AreDifferent}
 use Rattle.list_facts.proofs.AllLemmas.{AllByRecursion-at}
 use Rattle.list_facts.proofs.BitLemmas.{is_one-sum}
 use Rattle.list_facts.proofs.OrderLemmas.{AreDifferent-rising}
-use Rattle.circuit_tidy.specs.declared.flip.Flip.{Flip}
+use Rattle.flip_lists.specs.declared.flip.Flip.{Flip}
 use Rattle.circuit_tidy.specs.Blocks.{addition_of, cx}
 use Rattle.circuit_tidy.specs.Elimination.{Addition, Rows, own_rows, with_addition, with_additions, first_with, first_step, second_step, noted}
 use Rattle.circuit_tidy.specs.inside.BitRows.{bit_at_place, HoldRows, AreOwnWords, AddsRow, AddRows, IsNoted, between_places}

@@ -16,19 +16,20 @@ use Rattle.list_facts.proofs.OrderLemmas.{IsRising-filter}
 use Rattle.list_facts.proofs.TableLemmas.{of_three_bits}
 use Rattle.mct_circuit.specs.Gates.{IsGateOn}
 use Rattle.mct_circuit.specs.Sizes.{has_line}
-use Rattle.circuit_tidy.specs.declared.flip.Controls.{Controls}
-use Rattle.circuit_tidy.specs.declared.flip.Controls.TheVariants.{Zero, One, Two}
-use Rattle.circuit_tidy.specs.declared.flip.Flip.{Flip}
-use Rattle.circuit_tidy.specs.Blocks.{AreBlocks, EndsBefore, IsBlock, IsNoLonger, addition_of, all_walked, block_taken, cx, elimination_of, is_cx, is_one}
+use Rattle.flip_lists.specs.declared.flip.Controls.{Controls}
+use Rattle.flip_lists.specs.declared.flip.Controls.TheVariants.{Zero, One, Two}
+use Rattle.flip_lists.specs.declared.flip.Flip.{Flip}
+use Rattle.circuit_tidy.specs.Blocks.{AreBlocks, EndsBefore, IsBlock, IsNoLonger, addition_of, all_walked, block_taken, cx, elimination_of}
+use Rattle.flip_lists.specs.Flips.{is_cx, is_one}
 use Rattle.circuit_tidy.specs.Blocks.{one_line, passed_over, touched}
 use Rattle.circuit_tidy.specs.Elimination.{eliminated}
-use Rattle.circuit_tidy.specs.Flips.{controls_of, gate_of, lines_in, touches}
+use Rattle.flip_lists.specs.Flips.{controls_of, gate_of, lines_in, touches}
 use Rattle.circuit_tidy.specs.inside.BitRows.{IsCxOn}
 use Rattle.circuit_tidy.specs.inside.Walking.{AreOnLines, AreShort, AreTouched, HaveShortBlocks, IsFirstCx, IsLonger, IsPassed, IsBlockOf, StopsBefore, takes}
 use Rattle.circuit_tidy.specs.inside.Walking.{with_line, with_lines_of}
 use Rattle.circuit_tidy.specs.declared.blocks.Block.{Block}
 use Rattle.circuit_tidy.proofs.EliminationLemmas.{has_line-filter}
-use Rattle.circuit_tidy.proofs.IndexLemmas.{lines_of_flip}
+use Rattle.flip_lists.proofs.IndexLemmas.{lines_of_flip}
 
 -- ---- one more line
 

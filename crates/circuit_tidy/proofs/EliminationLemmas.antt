@@ -20,8 +20,8 @@ use Rattle.mct_circuit.proofs.ReversalLemmas.{reversed_behind}
 use Rattle.circuit_tidy.specs.Blocks.{cx}
 use Rattle.circuit_tidy.specs.Elimination.{Addition, Rows, own_rows, with_addition, with_additions, first_with, first_step, second_step, steps_at, noted}
 use Rattle.circuit_tidy.specs.Elimination.{eliminated}
-use Rattle.circuit_tidy.specs.Flips.{gate_of, gates_of}
-use Rattle.circuit_tidy.proofs.FlipLemmas.{after}
+use Rattle.flip_lists.specs.Flips.{gate_of, gates_of}
+use Rattle.flip_lists.proofs.FlipLemmas.{after}
 use Rattle.circuit_tidy.proofs.ParityLemmas.{parity, parity-same, parity-xor, parity-one}
 
 -- ---- one addition

@@ -5,13 +5,13 @@ use Rattle.std.specs.List.{AllByRecursion, remove}
 use Rattle.std.proofs.lemmas.List.{append_assoc, append-nil, drop-drop, drop_all, drop_more, length-append, length-take-le, take-append-drop}
 use Rattle.list_facts.proofs.AllLemmas.{AllByRecursion-append, AllByRecursion-left, AllByRecursion-right, AllByRecursion-take}
 use Rattle.mct_circuit.specs.Gates.{IsGateOn, line_map}
-use Rattle.circuit_tidy.specs.declared.flip.Flip.{Flip}
+use Rattle.flip_lists.specs.declared.flip.Flip.{Flip}
 use Rattle.circuit_tidy.specs.declared.sweep.Sweep.{Sweep}
-use Rattle.circuit_tidy.specs.Flips.{are_alike, are_free, gate_of, gates_of}
+use Rattle.flip_lists.specs.Flips.{are_alike, are_free, gate_of, gates_of}
 use Rattle.circuit_tidy.specs.inside.Sweeping.{contents, IsBegun, IsLastLike, Leads, LeadsOn, MeetsNext, Replaces, Stays, Takes}
 use Rattle.circuit_tidy.specs.inside.Walking.{AreOnLines, IsLonger}
 use Rattle.circuit_tidy.specs.inside.Work.{Follows, GoesOn, IsSwept}
-use Rattle.circuit_tidy.proofs.FlipLemmas.{after, alike_flips_undo, free_flips_commute}
+use Rattle.flip_lists.proofs.FlipLemmas.{after, alike_flips_undo, free_flips_commute}
 use Rattle.circuit_tidy.proofs.TidyLemmas.{elimination_replaces, follows_further, replaced_follows}
 
 -- ---- a pair goes out

@@ -20,21 +20,23 @@ use Rattle.mct_circuit.proofs.ReversalLemmas.{length-line_map, line_map-append}
 use Rattle.gate_split.specs.Split.{IsSplit, IsSplitList}
 use Rattle.gate_split.proofs.PieceLemmas.{stay}
 use Rattle.gate_split.proofs.SplitListLemmas.{one_split}
-use Rattle.circuit_tidy.specs.declared.flip.Controls.{Controls}
-use Rattle.circuit_tidy.specs.declared.flip.Controls.TheVariants.{Zero, One, Two}
-use Rattle.circuit_tidy.specs.declared.flip.Flip.{Flip}
-use Rattle.circuit_tidy.specs.Blocks.{IsBlock, addition_of, cx, elimination_of, is_cx, is_one, one_line, touched}
+use Rattle.flip_lists.specs.declared.flip.Controls.{Controls}
+use Rattle.flip_lists.specs.declared.flip.Controls.TheVariants.{Zero, One, Two}
+use Rattle.flip_lists.specs.declared.flip.Flip.{Flip}
+use Rattle.circuit_tidy.specs.Blocks.{IsBlock, addition_of, cx, elimination_of, one_line, touched}
+use Rattle.flip_lists.specs.Flips.{is_cx, is_one}
 use Rattle.circuit_tidy.specs.Elimination.{eliminated}
-use Rattle.circuit_tidy.specs.Flips.{controls_of, gate_of, gates_of, lines_in, touches}
+use Rattle.flip_lists.specs.Flips.{controls_of, gate_of, gates_of, lines_in, touches}
 use Rattle.circuit_tidy.specs.Pairs.{HasPair}
 use Rattle.circuit_tidy.specs.Tidied.{IsTidied}
-use Rattle.circuit_tidy.specs.inside.Settling.{with_flips}
+use Rattle.flip_lists.specs.Settling.{with_flips}
 use Rattle.circuit_tidy.specs.inside.Walking.{AreOnLines, AreShort}
 use Rattle.circuit_tidy.specs.inside.Work.{Follows, GoesOn, IsDone}
 use Rattle.circuit_tidy.proofs.BlockLemmas.{below_rises, has_line-below, any_low}
 use Rattle.circuit_tidy.proofs.EliminationLemmas.{AreLines, IsWithin, eliminated_replaces, gates_on, has_line-filter}
-use Rattle.circuit_tidy.proofs.IndexLemmas.{lines_of_flip}
-use Rattle.circuit_tidy.proofs.PairLemmas.{run-reverse, run-with_flips, length-with_flips, on-with_flips, settled-with_flips, settled_has_no_pair}
+use Rattle.flip_lists.proofs.IndexLemmas.{lines_of_flip}
+use Rattle.flip_lists.proofs.SettlingLemmas.{run-reverse, run-with_flips, length-with_flips, on-with_flips, settled-with_flips}
+use Rattle.circuit_tidy.proofs.PairLemmas.{settled_has_no_pair}
 
 -- ---- one after another
 

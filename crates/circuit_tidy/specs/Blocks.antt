@@ -1,23 +1,15 @@
 -- The blocks of a list of flips: runs of CX gates on at most 64 lines.
-use Rattle.std.specs.Prelude.{◌≡◌, ℕ, ◌<◌, ◌≤◌, ◌⊎◌, Bool, true, false, List, [], ◌∷◌, ◌++◌, ⊤, filter, length, map}
+use Rattle.std.specs.Prelude.{◌≡◌, ℕ, ◌<◌, ◌≤◌, ◌⊎◌, true, false, List, [], ◌∷◌, ◌++◌, ⊤, filter, length, map}
 use Rattle.std.specs.List.{AllByRecursion, list_any}
 use Rattle.list_facts.specs.Lists.{below}
-use Rattle.circuit_tidy.specs.declared.flip.Controls.{Controls}
-use Rattle.circuit_tidy.specs.declared.flip.Controls.TheVariants.{Zero, One, Two}
-use Rattle.circuit_tidy.specs.declared.flip.Flip.{Flip}
+use Rattle.flip_lists.specs.declared.flip.Controls.{Controls}
+use Rattle.flip_lists.specs.declared.flip.Controls.TheVariants.{Zero, One, Two}
+use Rattle.flip_lists.specs.declared.flip.Flip.{Flip}
 use Rattle.circuit_tidy.specs.declared.blocks.TheConstants.{MOST_BLOCK_LINES}
-use Rattle.circuit_tidy.specs.Flips.{touches}
+use Rattle.flip_lists.specs.Flips.{is_cx, touches}
 use Rattle.circuit_tidy.specs.Elimination.{Addition, eliminated}
 
 -- ---- CX gates as additions
-
-abbrev pub is_one : Controls → Bool
-is_one Zero = false
-is_one (One line) = true
-is_one (Two first second) = false
-
-abbrev pub is_cx : Flip → Bool
-is_cx flip = is_one flip.controls
 
 abbrev pub one_line : Controls → ℕ
 one_line Zero = 0

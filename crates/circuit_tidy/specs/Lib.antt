@@ -1,6 +1,5 @@
 pub mod Blocks
 pub mod Elimination
-pub mod Flips
 pub mod Limits
 pub mod Pairs
 pub mod Tidied

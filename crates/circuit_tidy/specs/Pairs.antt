@@ -1,8 +1,8 @@
 -- Cancelling pairs of flips.
 use Rattle.std.specs.Prelude.{◌≡◌, true, List, ◌∷◌, ◌++◌}
 use Rattle.std.specs.List.{AllByRecursion}
-use Rattle.circuit_tidy.specs.declared.flip.Flip.{Flip}
-use Rattle.circuit_tidy.specs.Flips.{are_alike, are_free}
+use Rattle.flip_lists.specs.declared.flip.Flip.{Flip}
+use Rattle.flip_lists.specs.Flips.{are_alike, are_free}
 
 -- two alike flips cancel where each flip between them is free of the first
 pub record HasPair (flips : List Flip) : Type 0 where

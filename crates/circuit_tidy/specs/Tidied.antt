@@ -2,8 +2,8 @@
 use Rattle.std.specs.Prelude.{◌≡◌, ℕ, ◌≤◌, Bool, List, length}
 use Rattle.std.specs.List.{AllByRecursion}
 use Rattle.mct_circuit.specs.Gates.{GateView, line_map}
-use Rattle.circuit_tidy.specs.declared.flip.Flip.{Flip}
-use Rattle.circuit_tidy.specs.Flips.{gates_of}
+use Rattle.flip_lists.specs.declared.flip.Flip.{Flip}
+use Rattle.flip_lists.specs.Flips.{gates_of}
 use Rattle.circuit_tidy.specs.Pairs.{HasPair}
 use Rattle.circuit_tidy.specs.Blocks.{AreBlocks, IsNoLonger}
 

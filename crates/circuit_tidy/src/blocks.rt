@@ -3,13 +3,13 @@ ghost use Rattle.std.specs.Prelude.{◌≡◌, ◌≤◌, ◌==◌, ◌||◌, le
 ghost use Rattle.list_facts.specs.Lists.{IsRising};
 ghost use Rattle.mct_circuit.specs.Sizes.{has_line};
 ghost use Rattle.circuit_tidy.specs.Limits.{LimitsAre};
-ghost use Rattle.circuit_tidy.specs.Blocks.{is_cx};
+ghost use Rattle.flip_lists.specs.Flips.{is_cx};
 ghost use Rattle.circuit_tidy.specs.inside.Walking.{AreShort, IsBlockOf, IsFront, IsFirstCx};
 ghost use Rattle.circuit_tidy.specs.inside.Walking.{IsLongerIn, IsPlaceFor, takes, with_line};
 ghost use Rattle.circuit_tidy.specs.inside.Walking.{with_lines_of};
 
-use crate::flip::{Controls, Flip};
 use crate::rows::elimination;
+use flip_lists::{Controls, Flip};
 use revc_base::Memory;
 use std::alloc::Global;
 

@@ -3,12 +3,7 @@
 #![tactic(auto)]
 
 mod blocks;
-mod flip;
-mod index;
-mod looks;
-mod marks;
 mod rows;
-mod spans;
 mod sweep;
 mod tidying;
 

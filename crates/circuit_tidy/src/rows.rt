@@ -12,7 +12,7 @@ ghost use Rattle.circuit_tidy.specs.inside.BitRows.{AddRows, AddsRow, AreOwnWord
 ghost use Rattle.circuit_tidy.specs.inside.BitRows.{IsCxOn, Notes};
 ghost use Rattle.circuit_tidy.specs.inside.BitRows.{between_places, bit_at_place};
 
-use crate::flip::{Controls, Flip};
+use flip_lists::{Controls, Flip};
 use revc_base::Memory;
 use std::alloc::Global;
 

@@ -2,18 +2,15 @@
 ghost use Rattle.std.specs.Prelude.{◌≡◌, ◌+◌, ◌<◌, ◌≤◌, ◌++◌, [], true, length, take, drop};
 ghost use Rattle.std.specs.Prelude.{slice_index, IfOk, OnOk, MatchOption, ⊤};
 ghost use Rattle.std.specs.List.{AllByRecursion};
-ghost use Rattle.circuit_tidy.specs.Flips.{are_free};
-ghost use Rattle.circuit_tidy.specs.inside.Marks.{may_come};
+ghost use Rattle.flip_lists.specs.Flips.{are_free};
+ghost use Rattle.flip_lists.specs.Marks.{may_come};
 ghost use Rattle.circuit_tidy.specs.inside.Walking.{IsLonger, IsLongerIn};
 ghost use Rattle.circuit_tidy.specs.inside.Sweeping.{IsBegun, IsLastLike, IsWithin, Leads};
 ghost use Rattle.circuit_tidy.specs.inside.Sweeping.{LeadsOn, MeetsNext, Replaces, Stays, Takes};
 ghost use Rattle.circuit_tidy.specs.inside.Work.{IsSwept};
 
 use crate::blocks::{Longer, front_of};
-use crate::flip::Flip;
-use crate::looks::{Latest, OnLines};
-use crate::marks::{Kinds, Marks};
-use crate::spans::Spans;
+use flip_lists::{Flip, Kinds, Latest, Marks, OnLines, Spans};
 use revc_base::Memory;
 use std::alloc::Global;
 

@@ -3,16 +3,15 @@ ghost use Rattle.std.specs.Prelude.{◌≡◌, ◌↔◌, ◌≤◌, ◌<◌, �
 ghost use Rattle.std.specs.Prelude.{IsErrOf};
 ghost use Rattle.std.specs.List.{AllByRecursion};
 ghost use Rattle.mct_circuit.specs.Gates.{AreNarrow, IsGateOn, IsNarrow};
-ghost use Rattle.circuit_tidy.specs.Flips.{gate_of, gates_of, lines_in};
+ghost use Rattle.flip_lists.specs.Flips.{gate_of, gates_of, lines_in};
 ghost use Rattle.circuit_tidy.specs.Tidied.{IsTidied};
 ghost use Rattle.circuit_tidy.specs.inside.Walking.{AreOnLines};
 ghost use Rattle.circuit_tidy.specs.inside.Work.{IsDone};
 
 use crate::blocks::first_longer;
-use crate::flip::{Controls, Flip};
-use crate::index::settled;
 use crate::sweep::swept;
 use circuit_plans::Narrow;
+use flip_lists::{Controls, Flip, settled};
 use gate_split::{SplitFault, split};
 use mct_circuit::{Circuit, Control, Gate, GateFault, Op};
 use revc_base::Memory;

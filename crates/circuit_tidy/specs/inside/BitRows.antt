@@ -3,9 +3,10 @@ use Rattle.std.specs.Prelude.{◌≡◌, ℕ, ◌<◌, ◌≤◌, ◌/◌, ◌%�
 use Rattle.list_facts.specs.Lists.{IsRising}
 use Rattle.mct_circuit.specs.Sizes.{has_line}
 use Rattle.circuit_tidy.specs.declared.blocks.TheConstants.{MOST_BLOCK_LINES}
-use Rattle.circuit_tidy.specs.declared.flip.Flip.{Flip}
+use Rattle.flip_lists.specs.declared.flip.Flip.{Flip}
 use Rattle.circuit_tidy.specs.declared.rows.NotedRows.{NotedRows}
-use Rattle.circuit_tidy.specs.Blocks.{cx, is_cx, one_line}
+use Rattle.circuit_tidy.specs.Blocks.{cx, one_line}
+use Rattle.flip_lists.specs.Flips.{is_cx}
 use Rattle.circuit_tidy.specs.Elimination.{Addition, Rows, with_addition, with_additions}
 
 -- the bit of a word at a place, the lowest place first

@@ -1,9 +1,9 @@
 -- What the steps of a sweep leave of the flips.
 use Rattle.std.specs.Prelude.{◌≡◌, ℕ, ◌+◌, ◌≤◌, true, List, [], ◌∷◌, ◌++◌, length, take, drop}
 use Rattle.std.specs.List.{AllByRecursion}
-use Rattle.circuit_tidy.specs.declared.flip.Flip.{Flip}
+use Rattle.flip_lists.specs.declared.flip.Flip.{Flip}
 use Rattle.circuit_tidy.specs.declared.sweep.Sweep.{Sweep}
-use Rattle.circuit_tidy.specs.Flips.{are_alike, are_free}
+use Rattle.flip_lists.specs.Flips.{are_alike, are_free}
 use Rattle.circuit_tidy.specs.inside.Walking.{AreOnLines}
 use Rattle.circuit_tidy.specs.inside.Work.{Follows, GoesOn}
 

@@ -10,9 +10,10 @@ use Rattle.circuit_tidy.specs.declared.blocks.Block.{Block}
 use Rattle.circuit_tidy.specs.declared.blocks.Front.{Front}
 use Rattle.circuit_tidy.specs.declared.blocks.Longer.{Longer}
 use Rattle.circuit_tidy.specs.declared.blocks.TheConstants.{MOST_BLOCK_LINES}
-use Rattle.circuit_tidy.specs.declared.flip.Flip.{Flip}
-use Rattle.circuit_tidy.specs.Blocks.{AreBlocks, IsBlock, IsNoLonger, elimination_of, is_cx, one_line}
-use Rattle.circuit_tidy.specs.Flips.{gate_of, touches}
+use Rattle.flip_lists.specs.declared.flip.Flip.{Flip}
+use Rattle.circuit_tidy.specs.Blocks.{AreBlocks, IsBlock, IsNoLonger, elimination_of, one_line}
+use Rattle.flip_lists.specs.Flips.{is_cx}
+use Rattle.flip_lists.specs.Flips.{gate_of, touches}
 
 abbrev pub AreOnLines : ℕ → List Flip → Type 0
 AreOnLines n flips = AllByRecursion (λ flip. IsGateOn n (gate_of flip)) flips

@@ -1,8 +1,8 @@
 -- What the work on the flips leaves.
 use Rattle.std.specs.Prelude.{◌≡◌, ℕ, ◌<◌, ◌≤◌, Bool, List, length}
 use Rattle.mct_circuit.specs.Gates.{line_map}
-use Rattle.circuit_tidy.specs.declared.flip.Flip.{Flip}
-use Rattle.circuit_tidy.specs.Flips.{gates_of}
+use Rattle.flip_lists.specs.declared.flip.Flip.{Flip}
+use Rattle.flip_lists.specs.Flips.{gates_of}
 use Rattle.circuit_tidy.specs.Tidied.{IsTidy}
 use Rattle.circuit_tidy.specs.inside.Walking.{AreOnLines}
 

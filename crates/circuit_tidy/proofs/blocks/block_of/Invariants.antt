@@ -1,6 +1,6 @@
 use Rattle.std.proofs.Common.{◌≡◌, ◌≤◌, ◌-◌, length, take, true}
 use Rattle.std.specs.List.{AllByRecursion}
-use Rattle.circuit_tidy.specs.Blocks.{is_cx}
+use Rattle.flip_lists.specs.Flips.{is_cx}
 use Rattle.circuit_tidy.specs.inside.Walking.{AreTouched}
 use Rattle.circuit_tidy.proofs.blocks.block_of.Given as goal
 

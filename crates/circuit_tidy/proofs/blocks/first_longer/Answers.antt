@@ -1,6 +1,6 @@
 use Rattle.std.proofs.Common.{◌+◌, ◌-◌, ap, drop, subst, sym, take, arith}
 use Rattle.std.specs.Global.{Vec}
-use Rattle.circuit_tidy.specs.declared.flip.Flip.{Flip}
+use Rattle.flip_lists.specs.declared.flip.Flip.{Flip}
 use Rattle.circuit_tidy.specs.inside.Walking.{IsFrontAnswer, IsLonger}
 use Rattle.circuit_tidy.proofs.BlockLemmas.{all_short, longer_in, passed_begun, passed_more, still_within}
 use Rattle.circuit_tidy.proofs.blocks.first_longer.Goals as goal

@@ -1,6 +1,6 @@
 use Rattle.std.proofs.Common.{◌≡◌, take, true}
 use Rattle.std.specs.List.{AllByRecursion}
-use Rattle.circuit_tidy.specs.Flips.{are_free}
+use Rattle.flip_lists.specs.Flips.{are_free}
 use Rattle.circuit_tidy.proofs.sweep.are_all_free.Given as goal
 
 abbrev pub invariant-loop-other : goal.invariant-loop-other

@@ -1,6 +1,6 @@
 use Rattle.std.proofs.Common.{◌≡◌, ◌≤◌, drop, length, true}
 use Rattle.std.specs.List.{AllByRecursion}
-use Rattle.circuit_tidy.specs.Flips.{are_free}
+use Rattle.flip_lists.specs.Flips.{are_free}
 use Rattle.circuit_tidy.proofs.sweep.last_like.Given as goal
 
 abbrev pub invariant-search : goal.invariant-search

@@ -1,5 +1,5 @@
 use Rattle.std.proofs.Common.{◌≡◌, take}
-use Rattle.circuit_tidy.specs.Flips.{gates_of}
+use Rattle.flip_lists.specs.Flips.{gates_of}
 use Rattle.circuit_tidy.proofs.tidying.circuit_of.Given as goal
 
 abbrev pub invariant-loop-flip : goal.invariant-loop-flip

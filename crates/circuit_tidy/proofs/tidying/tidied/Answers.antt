@@ -1,5 +1,5 @@
 use Rattle.std.proofs.Common.{◌∙◌, [], ap, reverse, subst}
-use Rattle.circuit_tidy.specs.inside.Settling.{with_flips}
+use Rattle.flip_lists.specs.Settling.{with_flips}
 use Rattle.circuit_tidy.specs.inside.Walking.{AreShort, IsLongerIn}
 use Rattle.circuit_tidy.proofs.TidyLemmas.{at_none, settled_on, turn_goes_on, turn_less, work_done}
 use Rattle.circuit_tidy.proofs.tidying.tidied.Goals as goal

@@ -1,7 +1,7 @@
 use Rattle.std.proofs.Common.{◌∙◌, Err, ap, length, subst, sym}
 use Rattle.mct_circuit.specs.Gates.{AreGatesOn, CircuitView}
 use Rattle.gate_split.specs.Split.{IsSplitList}
-use Rattle.circuit_tidy.specs.Flips.{gates_of}
+use Rattle.flip_lists.specs.Flips.{gates_of}
 use Rattle.circuit_tidy.specs.Tidied.{IsTidied}
 use Rattle.gate_split.specs.declared.fault.SplitFault.TheVariants.{Gates, NoIdle}
 use Rattle.circuit_tidy.proofs.TidyLemmas.{few_done, never_refused, on_lines_from, tidied_from}

@@ -1,7 +1,0 @@
-use Rattle.circuit_tidy.proofs.IndexLemmas.{contents-push}
-use Rattle.circuit_tidy.proofs.index.Places.push.Goals as goal
-
-pub returns : goal.returns
-returns c =
-    contents-push c.args.self.now.lists.items c.args.line c.args.place c.push.new.self c.index_mut.result.now c.requires c.index_mut.ensures.value
-    c.in_ok-push.ensures.items

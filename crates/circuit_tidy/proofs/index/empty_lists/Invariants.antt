@@ -1,6 +1,0 @@
-use Rattle.std.proofs.Common.{◌≡◌, [], replicate}
-use Rattle.circuit_tidy.specs.inside.Index.{contents}
-use Rattle.circuit_tidy.proofs.index.empty_lists.Given as goal
-
-abbrev pub invariant-loop-list : goal.invariant-loop-list
-invariant-loop-list l = contents l.lists.items ≡ replicate l._list []

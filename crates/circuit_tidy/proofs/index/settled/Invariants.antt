@@ -1,8 +1,0 @@
-use Rattle.std.proofs.Common.{◌≡◌, [], drop}
-use Rattle.circuit_tidy.specs.inside.Index.{IsIndex, flips_in}
-use Rattle.circuit_tidy.specs.inside.Settling.{with_flips}
-use Rattle.circuit_tidy.proofs.index.settled.Given as goal
-
-abbrev pub invariant-loop-flip : goal.invariant-loop-flip
-invariant-loop-flip l =
-    IsIndex l.lines l.index × (with_flips (drop l.flip-index l.flips) (flips_in l.index.slots.items) ≡ with_flips l.flips [])

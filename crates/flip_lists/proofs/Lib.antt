@@ -1,0 +1,3 @@
+pub mod FlipLemmas
+pub mod IndexLemmas
+pub mod SettlingLemmas

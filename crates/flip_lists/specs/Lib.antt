@@ -1,0 +1,5 @@
+pub mod Flips
+pub mod Marks
+pub mod Settling
+pub mod Spans
+pub mod inside
