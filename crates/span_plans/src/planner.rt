@@ -4,7 +4,7 @@ ghost use Rattle.circuit_plans.specs.declared.roles.Start.TheVariants.{Zero};
 ghost use Rattle.held_nodes.specs.Plans.{IsNarrowPlan};
 
 use crate::replaying::{Replayed, replay_of};
-use crate::searching::{Found, best_sweep};
+use crate::searching::{Found, Sweeps, best_sweeps};
 use crate::thinning::thinned;
 use circuit_plans::{Budget, Planned};
 use line_moves::{script, shortened};
@@ -45,25 +45,48 @@ fn replayed(alloc: Global, sums: &SumGraph, ports: u32, budget: &Budget) -> Resu
     };
     let limit = ports.saturating_add(room);
     let graph = SpanGraph::of(alloc, sums)?;
-    let found = best_sweep(alloc, &graph, taken, room)?;
-    match replayed_thin(alloc, sums, &graph, &found, ports, limit) {
-        Ok(None) | Err(Stop::Lost) => replay_of(alloc, &graph, &found.swept, ports, limit),
-        Ok(Some(replayed)) => Ok(replayed),
-        Err(stop) => Err(stop),
+    let Sweeps { best, near } = best_sweeps(alloc, &graph, taken, room)?;
+    if let Some(replayed) = replayed_thin(alloc, sums, &graph, &near, ports, limit)? {
+        return Ok(replayed);
+    }
+    if let Some(replayed) = replayed_thin(alloc, sums, &graph, &best, ports, limit)? {
+        return Ok(replayed);
+    }
+    match best {
+        Some(found) => replay_of(alloc, &graph, &found.swept, ports, limit),
+        None => Err(Stop::Lost),
     }
 }
 
-// The same with nodes written out, where that is no worse.
+// The moves of a sweep with nodes written out, where it is no worse so, and fits.
 fn replayed_thin(
+    alloc: Global,
+    sums: &SumGraph,
+    graph: &SpanGraph,
+    found: &Option<Found>,
+    ports: u32,
+    limit: u32,
+) -> Result<Option<Replayed>, Memory> {
+    let Some(found) = found else {
+        return Ok(None);
+    };
+    match thin_moves(alloc, sums, graph, found, ports, limit) {
+        Ok(replayed) => Ok(Some(replayed)),
+        Err(Stop::Lost) => Ok(None),
+        Err(Stop::Memory(memory)) => Err(memory),
+    }
+}
+
+fn thin_moves(
     alloc: Global,
     sums: &SumGraph,
     graph: &SpanGraph,
     found: &Found,
     ports: u32,
     limit: u32,
-) -> Result<Option<Replayed>, Stop> {
+) -> Result<Replayed, Stop> {
     match thinned(alloc, sums, graph, found)? {
-        Some((thin, swept)) => replay_of(alloc, &thin, &swept, ports, limit).map(Some),
-        None => Ok(None),
+        Some((thin, swept)) => replay_of(alloc, &thin, &swept, ports, limit),
+        None => Err(Stop::Lost),
     }
 }

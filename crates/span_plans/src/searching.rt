@@ -37,6 +37,9 @@ const SHAPES: [[usize; 3]; 9] = [
 /// How many rules are tried with blocks.
 const MOST_BLOCKED: usize = 2;
 
+/// How many lines more than there may be a sweep is kept with, whose nodes may be written out.
+const MOST_OVER: u32 = 64;
+
 /// How a plan is measured: by Toffoli gates, then by lines times gates, then by lines.
 type Cost = (u64, u64, u32);
 
@@ -162,7 +165,14 @@ pub struct Found {
     pub forced: Vec<bool>,
 }
 
-// The best sweep so far.
+/// What a search found: the best sweep that fits, and a better one that takes some lines too many.
+#[derive(Drop)]
+pub struct Sweeps {
+    pub best: Option<Found>,
+    pub near: Option<Found>,
+}
+
+// The best sweeps so far.
 #[derive(Drop)]
 struct Search<'g> {
     alloc: Global,
@@ -172,27 +182,51 @@ struct Search<'g> {
     /// How many work lines there may be.
     room: u32,
     best: Option<(Cost, Found)>,
+    /// Of those that take some lines too many.
+    near: Option<(Cost, Found)>,
     spent: u64,
 }
 
 /// The best sweep that fits `room` work lines beside `ports` other lines: first without cleaning,
 /// and where that takes too many lines, with as few segments cleaned as there have to be.
-pub fn best_sweep(alloc: Global, graph: &SpanGraph, ports: u32, room: u32) -> Result<Found, Stop> {
+pub fn best_sweeps(
+    alloc: Global,
+    graph: &SpanGraph,
+    ports: u32,
+    room: u32,
+) -> Result<Sweeps, Memory> {
     let mut search = Search {
         alloc,
         graph,
         ports,
         room,
         best: None,
+        near: None,
         spent: 0,
     };
     // Where the work is spent, what was found until then counts.
     if let Err(Stop::Memory(memory)) = search.try_all() {
-        return Err(Stop::Memory(memory));
+        return Err(memory);
     }
-    match search.best {
-        Some((_, found)) => Ok(found),
-        None => Err(Stop::Lost),
+    let Search { best, near, .. } = search;
+    let is_better = is_less(&near, &best);
+    Ok(Sweeps {
+        best: found_of(best),
+        near: if is_better { found_of(near) } else { None },
+    })
+}
+
+fn found_of(swept: Option<(Cost, Found)>) -> Option<Found> {
+    let (_, found) = swept?;
+    Some(found)
+}
+
+// Whether a sweep is there that is better than another one, if that is there.
+fn is_less(some: &Option<(Cost, Found)>, others: &Option<(Cost, Found)>) -> bool {
+    match (some, others) {
+        (Some((cost, _)), Some((least, _))) => cost < least,
+        (Some(_), None) => true,
+        (None, _) => false,
     }
 }
 
@@ -386,7 +420,7 @@ impl Search<'_> {
         })
     }
 
-    // Keeps a sweep that fits and is better than the best so far.
+    // Keeps a sweep that is better than the best so far and fits, or takes some lines too many.
     fn judge(&mut self, found: Found) -> Outcome {
         let measures = found.swept.measures;
         let lines = self.ports.saturating_add(measures.work);
@@ -397,12 +431,11 @@ impl Search<'_> {
             lines,
         );
         let fits = measures.work <= self.room;
-        let is_better = match &self.best {
-            Some((least, _)) => cost < *least,
-            None => true,
-        };
-        if fits && is_better {
-            self.best = Some((cost, found));
+        let swept = Some((cost, found));
+        if fits && is_less(&swept, &self.best) {
+            self.best = swept;
+        } else if is_near(measures.work, self.room) && is_less(&swept, &self.near) {
+            self.near = swept;
         }
         Outcome {
             fits,
@@ -410,6 +443,11 @@ impl Search<'_> {
             toffoli: measures.toffoli,
         }
     }
+}
+
+// Whether so many lines are some too many.
+fn is_near(lines: u32, room: u32) -> bool {
+    room < lines && lines.saturating_sub(room) <= MOST_OVER
 }
 
 // Appends a rule of several segments, where it is not the last one again.
