@@ -14,14 +14,19 @@ pub struct Move {
 }
 
 /// What a plan comes to: its Toffoli gates, its lines times its gates, and its lines. The better of
-/// two plans is the one that comes to less.
-pub type Size = (u64, u64, u32);
+/// two plans is the one that comes to less, at the first of them where they differ.
+#[derive(Clone, Copy, PartialEq, Eq, PartialOrd, Ord)]
+pub struct Size {
+    toffoli: u64,
+    area: u64,
+    lines: u32,
+}
 
 // The most looks at nodes that are taken for a draft.
 const MOST_LOOKS: u64 = 5_000_000;
 
-/// The forward part of a plan, seen by its toggles: nodes are held on lines and cleared again. A node
-/// with a home is held there and stays. The others take the least free work line.
+/// The forward part of a plan, seen by its toggles: nodes are held on lines and cleared again. A
+/// node with a home is held there and stays. The others take the least free work line.
 #[derive(Drop)]
 pub struct Draft<'t> {
     table: &'t Table,
@@ -76,8 +81,11 @@ impl<'t> Draft<'t> {
     /// What the plan comes to.
     pub fn size(&self) -> Size {
         let lines = self.lines();
-        let area = self.weight.gates.saturating_mul(u64::from(lines));
-        (self.weight.toffoli, area, lines)
+        Size {
+            toffoli: self.weight.toffoli,
+            area: self.weight.gates.saturating_mul(u64::from(lines)),
+            lines,
+        }
     }
 
     /// Whether no work line is free.

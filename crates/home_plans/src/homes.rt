@@ -5,8 +5,9 @@ use revc_base::Memory;
 use std::alloc::Global;
 use sum_graph::SumGraph;
 
-/// The homes of a graph's nodes. An output lends its line to the greatest node of its sum, where that
-/// is a bit of the sum and stands in no product of it, and no output before lends its line to it.
+/// The homes of a graph's nodes. An output lends its line to the greatest node of its sum, where
+/// that is a bit of the sum and stands in no product of it, and no output before lends its line to
+/// it.
 #[derive(Drop)]
 pub struct Homes {
     /// For each node, the output on whose line it stands.

@@ -5,8 +5,8 @@ use circuit_plans::PlanFault;
 use revc_base::Memory;
 use std::alloc::Global;
 
-/// The plan by halves, down to `depth` halvings: what the second half needs of the first is held, then
-/// what is needed in the end of the second, and then the first half is cleared of what is not.
+/// The plan by halves, down to `depth` halvings: what the second half needs of the first is held,
+/// then what is needed in the end of the second, and then the first half is cleared of what is not.
 pub fn pebbled(
     alloc: Global,
     draft: &mut Draft<'_>,

@@ -25,8 +25,8 @@ const SHARES: u32 = 6;
 // How many depths of pebbling are tried.
 const DEPTHS: u32 = 24;
 
-/// The best plan with homes that was found, by its Toffoli gates, then by lines times gates, then by
-/// lines; none where none of those that are tried fits the budget.
+/// The best plan with homes that was found, by its Toffoli gates, then by lines times gates, then
+/// by lines; none where none of those that are tried fits the budget.
 pub fn plan(alloc: Global, graph: &SumGraph, budget: &Budget) -> Result<Option<Planned>, Memory>
     ensures { IfOk result (λ found. IfSome found (IsNarrowPlan Zero graph.now budget.now)) }
 {

@@ -3,14 +3,11 @@ use crate::draft::{Draft, Move};
 use crate::homes::Homes;
 use bit_sums::{Product, Sum};
 use dependency_graph::Base;
-use line_moves::{FactorLines, Moves, Writing};
+use line_moves::{FactorLines, Moves, NOWHERE, Writing};
 use revc_base::Memory;
 use span_rows::Stop;
 use std::alloc::Global;
 use sum_graph::SumGraph;
-
-// The line of a node that is not held: there is none such.
-const NOWHERE: u32 = u32::MAX;
 
 // The most bits that are added to sets of bits, as each bit of a sum is to those before it.
 const MOST_WORK: u64 = 400_000_000;

@@ -12,6 +12,7 @@ mod shortening;
 mod writing;
 
 pub use factors::FactorLines;
+pub use lines::NOWHERE;
 pub use moves::{Gathering, Gatherings, Move, Moves};
 pub use scripts::script;
 pub use shortening::shortened;

@@ -69,34 +69,41 @@ impl Parities {
 
     // Of each line the symbol and those of the factors that have it, the shortest first.
     fn vectors(&self, alloc: Global, products: &[FactorLines]) -> Result<Vec<Vec<u32>>, Stop> {
-        let mut vectors = Vec::with_capacity(alloc, self.lines.len())?;
-        for (place, line) in self.lines.iter().enumerate() {
-            let mut vector = self.factors_with(alloc, products, *line)?;
+        let mut vectors = self.factors(alloc, products)?;
+        for (place, vector) in vectors.iter_mut().enumerate() {
             vector.push(number(place)?)?;
-            vectors.push(vector)?;
         }
         vectors.sort_by_key(|vector| vector.len())?;
         Ok(vectors)
     }
 
-    // The symbols of the factors that have a line, falling.
-    fn factors_with(
-        &self,
-        alloc: Global,
-        products: &[FactorLines],
-        line: u32,
-    ) -> Result<Vec<u32>, Stop> {
-        let mut symbols = Vec::new(alloc);
+    // Of each line the symbols of the factors that have it, falling.
+    fn factors(&self, alloc: Global, products: &[FactorLines]) -> Result<Vec<Vec<u32>>, Stop> {
+        let mut factors = lists(alloc, self.lines.len())?;
         for (k, product) in products.iter().enumerate().rev() {
             let k = number(k)?;
-            if product.second.contains(&line) {
-                symbols.push(self.symbol(second_of(k))?)?;
-            }
-            if product.first.contains(&line) {
-                symbols.push(self.symbol(first_of(k))?)?;
+            self.push_factor(&mut factors, second_of(k), &product.second)?;
+            self.push_factor(&mut factors, first_of(k), &product.first)?;
+        }
+        Ok(factors)
+    }
+
+    // Puts the symbol of a factor behind those before it at each of its lines.
+    fn push_factor(
+        &self,
+        factors: &mut [Vec<u32>],
+        factor: u32,
+        lines: &[u32],
+    ) -> Result<(), Stop> {
+        let symbol = self.symbol(factor)?;
+        for line in lines {
+            if let Ok(place) = self.lines.binary_search(line)
+                && let Some(symbols) = factors.get_mut(place)
+            {
+                symbols.push(symbol)?;
             }
         }
-        Ok(symbols)
+        Ok(())
     }
 
     // Puts a vector among the rows, unless its factors are those of other rows together.
@@ -132,6 +139,15 @@ impl Parities {
         }
         Ok(())
     }
+}
+
+// So many empty lists.
+fn lists(alloc: Global, count: usize) -> Result<Vec<Vec<u32>>, Memory> {
+    let mut lists = Vec::with_capacity(alloc, count)?;
+    for _ in 0..count {
+        lists.push(Vec::new(alloc))?;
+    }
+    Ok(lists)
 }
 
 // Pairs nodes with a line.

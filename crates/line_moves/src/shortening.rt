@@ -12,13 +12,12 @@ const MOST_PASSES: u32 = 16;
 
 const MOST_WORK: usize = 12_000_000;
 
-/// The moves with fewer copies. Two equal copies go where no move between them changes the line that
-/// is copied or reads the one that it is copied to. Where one copy alone does so, both go too, and
-/// another one comes beside it: of `a` to `b`, `b` to `c`, `a` to `b` are left `b` to `c`, `a` to `c`;
-/// of `a` to `b`, `c` to `a`, `a` to `b` are left `c` to `a`, `c` to `b`. A pass takes time near
-/// linear in the moves.
-pub fn shortened(alloc: Global, moves: Moves, lines: u32) -> Result<Moves, Stop> {
-    let mut moves = moves;
+/// The moves with fewer copies. Two equal copies go where no move between them changes the line
+/// that is copied or reads the one that it is copied to. Where one copy alone does so, both go too,
+/// and another one comes beside it: of `a` to `b`, `b` to `c`, `a` to `b` are left `b` to `c`, `a`
+/// to `c`; of `a` to `b`, `c` to `a`, `a` to `b` are left `c` to `a`, `c` to `b`. A pass takes time
+/// near linear in the moves.
+pub fn shortened(alloc: Global, mut moves: Moves, lines: u32) -> Result<Moves, Stop> {
     let mut work: usize = 0;
     for _ in 0..MOST_PASSES {
         let length = moves.len();

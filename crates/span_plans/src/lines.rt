@@ -1,4 +1,5 @@
 // Which lines are free, and the lines of rows.
+use line_moves::NOWHERE;
 use revc_base::Memory;
 use span_rows::Stop;
 use std::alloc::Global;
@@ -79,9 +80,6 @@ pub struct SavedLines {
     free: Vec<u32>,
     behind: u32,
 }
-
-/// The line of a row that has none. No circuit has it, so moves that name it are refused.
-const NOWHERE: u32 = u32::MAX;
 
 /// The lines of rows.
 #[derive(Drop)]

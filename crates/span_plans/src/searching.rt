@@ -1,6 +1,6 @@
 // Which schedule is swept for the best plan.
 use revc_base::Memory;
-use span_rows::Stop;
+use span_rows::{Stop, is_set, set};
 use span_sweeps::{Event, Range, SpanGraph, Swept, Turn, chains, minima, schedule, sweep};
 use std::alloc::Global;
 
@@ -95,36 +95,36 @@ impl Rule {
 
     // Learns from a sweep which nodes without products took a line of their own, or more than
     // `most` additions; whether another sweep would go otherwise.
-    fn learn(&mut self, graph: &SpanGraph, events: &[Event], most: usize) -> bool {
+    fn learn(&mut self, graph: &SpanGraph, events: &[Event], most: usize) -> Result<bool, Stop> {
         let mut is_new = false;
         for event in events {
-            is_new |= self.learn_event(graph, event, most);
+            is_new |= self.learn_event(graph, event, most)?;
         }
-        is_new
+        Ok(is_new)
     }
 
-    fn learn_event(&mut self, graph: &SpanGraph, event: &Event, most: usize) -> bool {
+    fn learn_event(&mut self, graph: &SpanGraph, event: &Event, most: usize) -> Result<bool, Stop> {
         let Event::On {
             toggle,
             is_fresh,
             ..
         } = event
         else {
-            return false;
+            return Ok(false);
         };
-        if !is_linear(graph, toggle.node) || is_marked(&self.copies, toggle.node) {
-            return false;
+        if !is_linear(graph, toggle.node) || is_set(&self.copies, toggle.node) {
+            return Ok(false);
         }
         if *is_fresh {
-            mark(&mut self.copies, toggle.node);
-            return self.starts.len() > 1;
+            set(&mut self.copies, toggle.node, true)?;
+            return Ok(self.starts.len() > 1);
         }
         if toggle.before.len() <= most {
-            return false;
+            return Ok(false);
         }
-        mark(&mut self.copies, toggle.node);
-        mark(&mut self.forced, toggle.node);
-        true
+        set(&mut self.copies, toggle.node, true)?;
+        set(&mut self.forced, toggle.node, true)?;
+        Ok(true)
     }
 }
 
@@ -132,18 +132,6 @@ fn is_linear(graph: &SpanGraph, node: u32) -> bool {
     match graph.nodes.get(node as usize) {
         Some(node) => node.is_linear(),
         None => false,
-    }
-}
-
-fn is_marked(marks: &[bool], node: u32) -> bool {
-    let place = node as usize;
-    place < marks.len() && marks[place]
-}
-
-fn mark(marks: &mut [bool], node: u32) {
-    let place = node as usize;
-    if place < marks.len() {
-        marks[place] = true;
     }
 }
 
@@ -390,7 +378,7 @@ impl Search<'_> {
     ) -> Result<(Outcome, bool), Stop> {
         let mut found = self.sweep(rule, cleaned, blocks)?;
         let swept = &mut found.swept;
-        let is_new = rule.learn(self.graph, &swept.events, most);
+        let is_new = rule.learn(self.graph, &swept.events, most)?;
         rule.ranks = std::mem::replace(&mut swept.ranks, Vec::new(self.alloc));
         Ok((self.judge(found), is_new))
     }
