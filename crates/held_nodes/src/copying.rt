@@ -1,6 +1,6 @@
 // The gates that copy the outputs to their lines, and the circuit of a finished plan.
 ghost use Rattle.std.specs.Prelude.{◌≡◌, ◌+◌, ◌<◌, ◌≤◌, ◌∷◌, [], ◌++◌, ◌*◌, length, reverse, take};
-ghost use Rattle.std.specs.Prelude.{IfOk, IfErr, OnOk, sum_by, true, false};
+ghost use Rattle.std.specs.Prelude.{IfOk, IfErr, OnErr, OnOk, sum_by, true, false};
 ghost use Rattle.std.specs.List.{AllByRecursion};
 ghost use Rattle.sum_graph.specs.Graphs.{IsSumGraph};
 ghost use Rattle.circuit_plans.specs.declared.plan.TheConstants.{MOST_LINES};
@@ -106,18 +106,22 @@ fn append_all(
     ensures { OnOk result (circuit.new ≡ record circuit.old
         { gates = gates.old.items ++ copies.old.items ++ reverse gates.old.items }) }
 {
-    append(circuit, gates)?;
+    append_gates(circuit, gates)?;
     let count = circuit.len();
-    append(circuit, copies)?;
+    append_gates(circuit, copies)?;
     mirror(circuit, count)
 }
 
-// Appends gates where there is room for them.
-fn append(circuit: &mut Circuit, gates: &mut Vec<Gate>) -> Result<(), Memory>
+/// Appends gates on the circuit's lines, for which there is room, and leaves none in their list. It
+/// fails only for want of memory.
+pub fn append_gates(circuit: &mut Circuit, gates: &mut Vec<Gate>) -> Result<(), Memory>
     requires on { AreGatesOn circuit.old.lines gates.old.items }
     requires room { length circuit.old.gates + length gates.old.items ≤ circuit.old.limit }
-    ensures { OnOk result (circuit.new
+    ensures ok { OnOk result (circuit.new
         ≡ record circuit.old { gates = circuit.old.gates ++ gates.old.items }) }
+    ensures emptied { OnOk result (gates.new.items ≡ []) }
+    ensures kept { OnErr result (gates.new.items ≡ gates.old.items) }
+    ensures err { OnErr result (circuit.new ≡ circuit.old) }
 {
     match circuit.append(gates) {
         Ok(()) => Ok(()),

@@ -9,5 +9,6 @@ mod forward;
 mod law;
 mod weighed;
 
+pub use copying::append_gates;
 pub use forward::{Forward, Moved};
 pub use law::toggles_are_narrow;

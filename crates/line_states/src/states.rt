@@ -22,7 +22,8 @@ use crate::sets::toggled_set;
 use bit_sums::{Sum, apart};
 use circuit_plans::{Budget, Planned};
 use dependency_graph::Base;
-use mct_circuit::{Circuit, Gate, GateFault};
+use held_nodes::append_gates;
+use mct_circuit::{Circuit, Gate};
 use revc_base::{Key, Memory};
 use std::alloc::Global;
 use std::marker::Model;
@@ -240,24 +241,10 @@ fn plan_of(
         ≡ planned_of_parts graph.now budget.now lines gates.items) }
 {
     let mut circuit = Circuit::new(alloc, lines, budget.gates());
-    append(&mut circuit, &mut gates)?;
+    append_gates(&mut circuit, &mut gates)?;
     let outputs = graph.outputs().len() as u32;
     let work = lines - (graph.inputs() + outputs);
     Ok(Planned::new(circuit, graph.inputs(), outputs, work))
-}
-
-// Appends gates where there is room for them.
-fn append(circuit: &mut Circuit, gates: &mut Vec<Gate>) -> Result<(), Memory>
-    requires on { AreGatesOn circuit.old.lines gates.old.items }
-    requires room { length circuit.old.gates + length gates.old.items ≤ circuit.old.limit }
-    ensures { OnOk result (circuit.new
-        ≡ record circuit.old { gates = circuit.old.gates ++ gates.old.items }) }
-{
-    match circuit.append(gates) {
-        Ok(()) => Ok(()),
-        Err(GateFault::Memory(memory)) => Err(memory),
-        Err(GateFault::Full) => unreachable!(),
-    }
 }
 
 // The sets at the beginning.
