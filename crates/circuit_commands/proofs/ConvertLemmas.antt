@@ -8,6 +8,7 @@ use Rattle.mct_circuit.proofs.MoreLinesLemmas.{more_lines}
 use Rattle.gate_split.specs.declared.fault.SplitFault.TheVariants as splits
 use Rattle.circuit_plans.specs.declared.plan.TheConstants.{MOST_LINES, MOST_GATES}
 use Rattle.gate_split.specs.Split.{HasSplitList, IsSplitList}
+use Rattle.gate_split.proofs.PieceLemmas.{stay}
 use Rattle.gate_split.proofs.SplitListLemmas.{one_split}
 use Rattle.real_format.specs.declared.file.Mark.{Mark}
 use Rattle.real_format.proofs.MeaningLemmas as real
@@ -27,7 +28,7 @@ use Rattle.circuit_commands.specs.Convert.{IsCause, CanSplit, HasSplit, IsSplitI
 use Rattle.circuit_commands.specs.Convert.{WantsLine, LacksLine, PassesLines, PassesGates, DoesTheSame}
 use Rattle.circuit_commands.specs.Convert.{IsFileOf, added_lines, converted, file_text, said_in}
 use Rattle.circuit_commands.specs.Outcomes.{ConvertedView, IsConversion}
-use Rattle.circuit_commands.specs.inside.Splitting.{HasSomeSplit, IsMarked, IsNarrowOf, IsPlaced, IsWritable, SplitsText}
+use Rattle.circuit_commands.specs.inside.Splitting.{HasSomeSplit, IsMarked, IsNarrowOf, IsPlaced, IsSplitOf, IsWritable, SplitsText}
 use Rattle.circuit_commands.proofs.CircuitLemmas.{means_or_refused, one_circuit, one_circuit_refusal}
 
 -- ---- a split has one answer
@@ -161,7 +162,7 @@ means_written Qasm made w =
           ∙ ap (unmarked lines) m.gates_are);
     }
 
-converted_gates : (circuit : ReadCircuit) (added : Bool) (gates : List GateView) → (converted circuit added gates).gates ≡ gates
+pub converted_gates : (circuit : ReadCircuit) (added : Bool) (gates : List GateView) → (converted circuit added gates).gates ≡ gates
 converted_gates circuit false gates = refl
 converted_gates circuit true gates = refl
 
@@ -270,9 +271,30 @@ split_as most source narrow added n lines =
       subst (λ (b : Bool). DoesTheSame source b narrow.gates) same n.same,
     )
 
--- the split list of a text with the marks of its lines
-pub split_marked : (from : Format) (text : List ℕ) (source : ReadCircuit) (narrow : CircuitView) (made : ConvertedView)
-    → SplitsText MOST_GATES from text source narrow → IsMarked source narrow made → IsConversion IsSplitInto from text made
-split_marked from text source narrow made s m =
-    let split = split_as MOST_GATES source narrow made.added s.split m.lines in
-    conversion IsSplitInto from text source narrow.gates made s.means split.0 (record { are = m.are; writable = m.writable; same = split.1 })
+-- the split list with the marks of the circuit's lines
+pub split_marked : (most : ℕ) (source : ReadCircuit) (narrow : CircuitView) (made : ConvertedView) → IsNarrowOf most source narrow
+    → IsMarked source narrow made → IsSplitOf most source made
+split_marked most source narrow made n m =
+    let split = split_as most source narrow made.added n m.lines in
+    record { gates = narrow.gates; split = split.0; placed = record { are = m.are; writable = m.writable; same = split.1 } }
+
+-- gates that are narrow already are their own split list
+pub split_as_it_is : (most : ℕ) (source : ReadCircuit) (made : ConvertedView) → AreNarrow source.gates → length source.gates ≤ most
+    → made ≡ record { circuit = converted source false source.gates; added = false } → IsWritable made → IsSplitOf most source made
+split_as_it_is most source made narrow few is writable =
+    let circuit : made.circuit ≡ source = ap (λ (m : ConvertedView). m.circuit) is in
+    let added : false ≡ made.added = sym (ap (λ (m : ConvertedView). m.added) is) in
+    record {
+      gates = source.gates;
+      split = subst (λ (b : Bool). HasSplit most source b (Ok source.gates)) added (stay (line_count source) most source.gates narrow few);
+      placed = record {
+        are = circuit ∙ ap (λ (b : Bool). converted source b source.gates) added;
+        writable = writable;
+        same = subst (λ (b : Bool). DoesTheSame source b source.gates) added (same_on_own source source.gates (λ bits long. refl));
+      };
+    }
+
+-- the split list of a text is written in each format
+pub split_written : (from : Format) (text : List ℕ) (made : ConvertedView) → SplitsText MOST_GATES from text made
+    → IsConversion IsSplitInto from text made
+split_written from text made s = conversion IsSplitInto from text s.circuit s.split.gates made s.means s.split.split s.split.placed

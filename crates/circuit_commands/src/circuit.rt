@@ -84,18 +84,20 @@ impl MarkedCircuit {
         &self.garbage
     }
 
-    /// The marks of the lines, given away.
-    pub fn into_marks(self) -> (Vec<Mark>, Vec<bool>)
+    /// The marks of the lines and the circuit on them, given away.
+    pub fn into_parts(self) -> (Vec<Mark>, Vec<bool>, Circuit)
         ensures constants { result.0.items ≡ self.constants }
         ensures garbage { result.1.items ≡ self.garbage }
         ensures fit { length self.garbage ≡ line_count self }
+        ensures lines { result.2.lines ≡ line_count self }
+        ensures gates { result.2.gates ≡ self.gates }
     {
         let MarkedCircuit {
             constants,
             garbage,
-            ..
+            circuit,
         } = self;
-        (constants, garbage)
+        (constants, garbage, circuit)
     }
 }
 

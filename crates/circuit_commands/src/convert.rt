@@ -1,5 +1,6 @@
 // `convert`: the file of the narrow gates in place of a circuit's gates.
-ghost use Rattle.std.specs.Prelude.{◌≡◌, ◌+◌, ◌<◌, ◌≤◌, true, false, length, IfOk, IfErr};
+ghost use Rattle.std.specs.Prelude.{◌≡◌, ◌+◌, ◌<◌, ◌≤◌, true, false, length, IfOk, IfErr, IsTrue};
+ghost use Rattle.mct_circuit.specs.Gates.{AreNarrow};
 ghost use Rattle.circuit_plans.specs.declared.plan.TheConstants.{MOST_GATES, MOST_LINES};
 ghost use Rattle.revc_io.specs.Faults.{HasCause};
 ghost use Rattle.revc_io.specs.Passing.{Writes};
@@ -10,13 +11,15 @@ ghost use Rattle.circuit_commands.specs.Convert.{IsSplitInto, WantsLine, convert
 ghost use Rattle.circuit_commands.specs.Convert.{file_text, added_lines};
 ghost use Rattle.circuit_commands.specs.Outcomes.{IsConversion, IsConvertFault, ConvertedView};
 ghost use Rattle.circuit_commands.specs.inside.Splitting.{HasLines, IsMarked, IsNarrowOf};
-ghost use Rattle.circuit_commands.specs.inside.Splitting.{IsOnLinesOf, IsSplitFault, SplitsText};
+ghost use Rattle.circuit_commands.specs.inside.Splitting.{IsOnLinesOf, IsSplitFault, IsSplitOf};
+ghost use Rattle.circuit_commands.specs.inside.Splitting.{SplitsText};
 ghost use Rattle.circuit_commands.specs.inside.Splitting.{IsWritable};
 
 use crate::circuit::{MarkedCircuit, read_circuit};
 use circuit_plans::{MOST_GATES, MOST_LINES, Narrow};
 use command_answers::Fault;
-use gate_split::{SplitFault, split};
+use gate_split::{SplitFault, is_narrow, split};
+use mct_circuit::Circuit;
 use real_format::Mark;
 use revc_base::Memory;
 use revc_io::{Failed, Sink};
@@ -49,6 +52,31 @@ impl Model for Converted {
         × (length c.circuit.gates ≤ MOST_GATES) };
 }
 
+impl Converted {
+    // The circuit of narrow gates, lent. It takes no memory.
+    pub(crate) fn narrow(&self) -> &Narrow
+        ensures lines { result.now.lines ≡ line_count self.now.circuit }
+        ensures gates { result.now.gates ≡ self.now.circuit.gates }
+    {
+        &self.circuit
+    }
+
+    // Other gates on the same lines.
+    pub(crate) fn with_gates(mut self, circuit: Narrow) -> Converted
+        requires lines { circuit.lines ≡ line_count self.circuit }
+        requires few_gates { length circuit.gates ≤ MOST_GATES }
+        ensures made { result ≡ record self {
+          circuit = record self.circuit { gates = circuit.gates };
+        } }
+        ensures writable { IsWritable result }
+    {
+        // This call says that the gates are on the lines.
+        let _ = circuit.circuit().lines();
+        self.circuit = circuit;
+        self
+    }
+}
+
 /// What `convert` gives, its causes and where it serves exclude one another, and it has one cause
 /// at most.
 pub fn one_outcome()
@@ -63,28 +91,72 @@ pub fn convert(alloc: Global, text: &[u8], from: Format) -> Result<Converted, Fa
     ensures ok { IfOk result (IsConversion IsSplitInto from text.now) }
     ensures err { IfErr result (IsConvertFault MOST_GATES from text.now) }
 {
-    let (source, narrow) = split_text(alloc, text, from, MOST_GATES)?;
-    marked(source, narrow)
+    split_text(alloc, text, from, MOST_GATES)
 }
 
-// The circuit of a text, and its split list of at most so many gates.
+// The split list of at most so many gates of a text's circuit, with its marks.
 pub(crate) fn split_text(
     alloc: Global,
     text: &[u8],
     from: Format,
     most: u64,
-) -> Result<(MarkedCircuit, Narrow), Fault>
-    requires { length text.now ≤ MOST_CIRCUIT_BYTES }
-    ensures ok { IfOk result (λ read. SplitsText most from text.now read.0 read.1) }
+) -> Result<Converted, Fault>
+    requires short { length text.now ≤ MOST_CIRCUIT_BYTES }
+    requires few { most ≤ MOST_GATES }
+    ensures ok { IfOk result (SplitsText most from text.now) }
     ensures err { IfErr result (IsConvertFault most from text.now) }
 {
     let source = read_circuit(alloc, text, from)?;
-    let narrow = split_gates(alloc, &source, most)?;
-    Ok((source, narrow))
+    split_gates(alloc, source, most)
+}
+
+// At most so many narrow gates on the lines of a circuit, or on one more. Gates that are narrow
+// already are not copied.
+fn split_gates(alloc: Global, source: MarkedCircuit, most: u64) -> Result<Converted, Fault>
+    requires lines { HasLines source }
+    requires few { most ≤ MOST_GATES }
+    ensures ok { IfOk result (IsSplitOf most source) }
+    ensures err { IfErr result (IsSplitFault most source) }
+{
+    if are_few_and_narrow(source.circuit(), most) {
+        return Ok(as_it_is(source));
+    }
+    let narrow = split_on_lines(alloc, &source, most)?;
+    marked(source, narrow)
+}
+
+// Whether the gates are narrow, and at most so many.
+fn are_few_and_narrow(circuit: &Circuit, most: u64) -> bool
+    ensures few { IsTrue result → length circuit.now.gates ≤ most }
+    ensures narrow { IsTrue result → AreNarrow circuit.now.gates }
+{
+    circuit.len() <= most && circuit.gates().iter().all(|gate| is_narrow(gate))
+}
+
+// A circuit of narrow gates with its own gates.
+fn as_it_is(source: MarkedCircuit) -> Converted
+    requires lines { HasLines source }
+    requires few_gates { length source.gates ≤ MOST_GATES }
+    requires narrow { AreNarrow source.gates }
+    ensures made { result ≡ record {
+      circuit = converted source false source.gates;
+      added = false;
+    } }
+    ensures writable { IsWritable result }
+{
+    let (constants, garbage, circuit) = source.into_parts();
+    // This call says that the gates are on the lines.
+    let _ = circuit.lines();
+    Converted {
+        circuit: Narrow::new(circuit),
+        constants,
+        garbage,
+        added: false,
+    }
 }
 
 // At most so many narrow gates on the lines of a circuit, or on one more.
-fn split_gates(alloc: Global, source: &MarkedCircuit, most: u64) -> Result<Narrow, Fault>
+fn split_on_lines(alloc: Global, source: &MarkedCircuit, most: u64) -> Result<Narrow, Fault>
     requires { HasLines source.now }
     ensures ok { IfOk result (IsNarrowOf most source.now) }
     ensures err { IfErr result (IsSplitFault most source.now) }
@@ -122,7 +194,7 @@ fn split_wider(alloc: Global, source: &MarkedCircuit, most: u64) -> Result<Narro
 }
 
 // The narrow gates of a circuit with its marks, and none on a line that was added.
-pub(crate) fn marked(source: MarkedCircuit, narrow: Narrow) -> Result<Converted, Fault>
+fn marked(source: MarkedCircuit, narrow: Narrow) -> Result<Converted, Fault>
     requires lines { HasLines source }
     requires on_lines { IsOnLinesOf source narrow }
     ensures ok { IfOk result (IsMarked source narrow) }
@@ -149,7 +221,7 @@ fn on_own_lines(source: MarkedCircuit, circuit: Narrow) -> Converted
 {
     // This call says that the gates are on the lines.
     let _ = circuit.circuit().lines();
-    let (constants, garbage) = source.into_marks();
+    let (constants, garbage, _) = source.into_parts();
     Converted {
         circuit,
         constants,
@@ -172,7 +244,7 @@ fn with_line(source: MarkedCircuit, circuit: Narrow) -> Result<Converted, Memory
 {
     // This call says that the gates are on the lines.
     let _ = circuit.circuit().lines();
-    let (mut constants, mut garbage) = source.into_marks();
+    let (mut constants, mut garbage, _) = source.into_parts();
     constants.push(Mark::Free)?;
     garbage.push(false)?;
     Ok(Converted {

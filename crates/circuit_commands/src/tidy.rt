@@ -6,7 +6,7 @@ ghost use Rattle.circuit_commands.specs.declared.limits.TheConstants.{MOST_TIDIE
 ghost use Rattle.circuit_commands.specs.Outcomes.{IsConversion, IsConvertFault};
 ghost use Rattle.circuit_commands.specs.Tidy.{IsTidiedFrom, promise};
 
-use crate::convert::{Converted, marked, split_text};
+use crate::convert::{Converted, split_text};
 use crate::limits::MOST_TIDIED_GATES;
 use command_answers::Fault;
 use revc_words::Format;
@@ -26,7 +26,7 @@ pub fn tidy(alloc: Global, text: &[u8], from: Format) -> Result<Converted, Fault
     ensures ok { IfOk result (IsConversion IsTidiedFrom from text.now) }
     ensures err { IfErr result (IsConvertFault MOST_TIDIED_GATES from text.now) }
 {
-    let (source, narrow) = split_text(alloc, text, from, MOST_TIDIED_GATES)?;
-    let tidied = circuit_tidy::tidy(alloc, &narrow)?;
-    marked(source, tidied)
+    let split = split_text(alloc, text, from, MOST_TIDIED_GATES)?;
+    let tidied = circuit_tidy::tidy(alloc, split.narrow())?;
+    Ok(split.with_gates(tidied))
 }

@@ -52,12 +52,18 @@ pub record IsPlaced (circuit : ReadCircuit) (gates : List GateView)
   pub writable : IsWritable made
   pub same : DoesTheSame circuit made.added gates
 
--- the text means this circuit, and these are the gates of its split list of at most so many
-pub record SplitsText (most : ℕ) (from : Format) (text : List ℕ) (circuit : ReadCircuit)
-    (narrow : CircuitView) : Type 0 where
+-- what waits is the split list of at most so many gates, with the circuit's marks
+pub record IsSplitOf (most : ℕ) (circuit : ReadCircuit) (made : ConvertedView) : Type 0 where
+  pub gates : List GateView
+  pub split : HasSplit most circuit made.added (Ok gates)
+  pub placed : IsPlaced circuit gates made
+
+-- the text means a circuit, and this is its split list of at most so many gates
+pub record SplitsText (most : ℕ) (from : Format) (text : List ℕ) (made : ConvertedView)
+    : Type 0 where
+  pub circuit : ReadCircuit
   pub means : Means from text circuit
-  pub lines : HasLines circuit
-  pub split : IsNarrowOf most circuit narrow
+  pub split : IsSplitOf most circuit made
 
 -- the circuit has a split list of at most so many gates, on its own lines or on one more
 pub record HasSomeSplit (most : ℕ) (circuit : ReadCircuit) : Type 0 where
