@@ -13,7 +13,7 @@ use Rattle.format_parts.proofs.FlipLemmas.{gates_are_lines}
 use Rattle.circuit_plans.specs.declared.roles.Roles.{Roles}
 use Rattle.circuit_plans.specs.declared.roles.Role.{Role}
 use Rattle.circuit_plans.specs.declared.roles.Role.TheVariants.{Input, Output, Work, Borrowed}
-use Rattle.qasm_format.specs.Statements.{Statement, Argument, argument_words, bracketed, parted, words_of}
+use Rattle.qasm_format.specs.Statements.{Statement, Argument, argument_words, one_of, parted, words_of}
 use Rattle.qasm_format.specs.declared.file.Register.{Register}
 use Rattle.qasm_format.specs.Written.{gate_word, gate_statement, declaration, line_text, file_text}
 use Rattle.qasm_format.specs.Compiled.{register_name, register_of, registers_of, argument_of}
@@ -21,33 +21,35 @@ use Rattle.qasm_format.specs.Converted.{kept_lines, added_register, converted_re
 use Rattle.qasm_format.specs.declared.naming.Naming.{Naming}
 use Rattle.qasm_format.specs.declared.naming.Naming.TheVariants.{ByRole, ByNumber}
 use Rattle.qasm_format.specs.inside.Naming.{registers_by, place_by}
-use Rattle.qasm_format.specs.inside.Parts.{place_text, argument_text, declaration_text, register_text, role_registers_text, numbered_registers_text}
+use Rattle.qasm_format.specs.inside.Parts.{argument_text, declaration_text, digits_in, opened_in, register_text, role_registers_text, numbered_registers_text}
 use Rattle.qasm_format.specs.inside.Parts.{head_text, header_text, flip_texts}
 use Rattle.qasm_format.proofs.RoleLemmas.{one_register}
 
 -- ---- places
 
 -- over any bytes for the brackets
-place_parts : (name opened digits closed : List ℕ) → name ++ (opened ++ (digits ++ (closed ++ []))) ≡ name ++ (opened ++ (digits ++ closed))
-place_parts name opened digits closed = simp append-nil
+place_parts : (name left digits right end : List ℕ)
+    → (name ++ left) ++ (digits ++ (right ++ end)) ≡ (name ++ (left ++ (digits ++ (right ++ [])))) ++ end
+place_parts name left digits right end = simp (append-nil, append_assoc)
 
-pub place_text_is : (name : List ℕ) (number : ℕ) → concat (bracketed name (decimal number)) ≡ place_text name number
-place_text_is name number = place_parts name (codes "[") (decimal number) (codes "]")
+-- a place that is put by its parts, with what stands behind it
+pub place_is : (place : Argument) (front digits back end : List ℕ) → front ≡ opened_in place → digits ≡ digits_in place
+    → back ≡ codes "]" ++ end → front ++ (digits ++ back) ≡ argument_text place ++ end
+place_is (one_of name number) front digits back end of_front of_digits of_back =
+    rw (of_front, of_digits, of_back) (place_parts name (codes "[") number (codes "]") end)
 
 -- ---- declarations
 
-declaration_parts : (word space place end feed : List ℕ) → word ++ (space ++ ((place ++ end) ++ feed)) ≡ (word ++ space) ++ (place ++ (end ++ feed))
-declaration_parts word space place end feed = simp append_assoc
+declaration_parts : (word space name left digits end feed : List ℕ)
+    → word ++ (space ++ ((name ++ (left ++ (digits ++ end))) ++ feed)) ≡ (word ++ space) ++ ((name ++ left) ++ (digits ++ (end ++ feed)))
+declaration_parts word space name left digits end feed = simp append_assoc
 
 -- the line of a declaration
 abbrev words_declared : Register → List (List ℕ)
 words_declared register = words_of (declaration register)
 
 declaration_text_is : (name : List ℕ) (size : ℕ) → line_text (words_declared (record { name = name; size = size })) ≡ declaration_text name size
-declaration_text_is name size =
-    ap (λ (t : List ℕ). codes "qreg" ++ (codes " " ++ (t ++ codes "\n"))) (concat-append (bracketed name (decimal size)) (codes ";" ∷ [])
-    ∙ ap (λ (t : List ℕ). t ++ codes ";") (place_text_is name size))
-    ∙ declaration_parts (codes "qreg") (codes " ") (place_text name size) (codes ";") (codes "\n")
+declaration_text_is name size = declaration_parts (codes "qreg") (codes " ") name (codes "[") (decimal size) (codes "];") (codes "\n")
 
 by_test : (role : Role) (size : ℕ) (none : Bool)
     → flat_map line_text (map words_declared (cond none [] (one_register role size))) ≡ cond none [] (declaration_text (register_name role) size)

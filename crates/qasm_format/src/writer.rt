@@ -10,8 +10,9 @@ ghost use Rattle.qasm_format.specs.Compiled.{register_name, compiled_text, Means
 ghost use Rattle.qasm_format.specs.Converted.{converted_text, MeansConverted};
 ghost use Rattle.qasm_format.specs.inside.Naming.{count_of, registers_by, place_by};
 ghost use Rattle.qasm_format.specs.inside.Parts.{register_text, word_text, header_text, flip_texts};
+ghost use Rattle.qasm_format.specs.inside.Parts.{registered_text};
 
-use crate::naming::{Naming, Place, added_lines, kept_lines, register_name};
+use crate::naming::{Naming, Place, added_lines, kept_lines, opened_name};
 use circuit_plans::{Laid, Narrow, Role};
 use format_parts::{FlipWriter, write_circuit};
 use mct_circuit::Circuit;
@@ -91,14 +92,16 @@ impl Piece for Header {
             }
             Naming::ByNumber { lines, added } => {
                 let kept = Place {
-                    name: b"q",
+                    front: b"q[",
                     number: kept_lines(lines, added),
+                    back: b"];\n",
                 };
                 let other = Register(Place {
-                    name: b"dirty",
+                    front: b"dirty[",
                     number: added_lines(added),
+                    back: b"];\n",
                 });
-                (head, (b"qreg ", kept, b";\n"), other).put(buffer, out)
+                (head, (b"qreg ", kept), other).put(buffer, out)
             }
         }
     }
@@ -106,12 +109,13 @@ impl Piece for Header {
 
 // The register of a role's lines.
 fn register_of(role: Role, size: u32) -> Register
-    ensures { register_text result.0.name.now result.0.number
+    ensures { registered_text result.0.front.now result.0.number result.0.back.now
         ≡ register_text (register_name role) size }
 {
     Register(Place {
-        name: register_name(role),
+        front: opened_name(role),
         number: size,
+        back: b"];\n",
     })
 }
 
@@ -122,13 +126,14 @@ struct Register(Place);
 impl Piece for Register {
     ghost can_put = { λ _. ⊤ };
 
-    ghost bytes = { λ register. register_text register.0.name.now register.0.number };
+    ghost bytes = { λ register.
+        registered_text register.0.front.now register.0.number register.0.back.now };
 
     fn put<K: Sink>(self, buffer: &mut Buffer, out: &mut K) -> Result<(), Failed> {
         if self.0.number == 0 {
             return Ok(());
         }
-        (b"qreg ", self.0, b";\n").put(buffer, out)
+        (b"qreg ", self.0).put(buffer, out)
     }
 }
 
@@ -138,9 +143,9 @@ impl Piece for Register {
 impl FlipWriter for Naming {
     type Word = Literal;
 
-    type Control = (Place, Literal);
+    type Control = Place;
 
-    type Target = (Place, Literal);
+    type Target = Place;
 
     ghost count = { count_of };
 
@@ -150,12 +155,12 @@ impl FlipWriter for Naming {
         Literal(gate_word(controls))
     }
 
-    fn control(self, line: u32) -> (Place, Literal) {
-        (self.place(line), Literal(b","))
+    fn control(self, line: u32) -> Place {
+        self.place(line, b"],")
     }
 
-    fn target(self, line: u32) -> (Place, Literal) {
-        (self.place(line), Literal(b";\n"))
+    fn target(self, line: u32) -> Place {
+        self.place(line, b"];\n")
     }
 }
 

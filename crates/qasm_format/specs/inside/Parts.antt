@@ -7,21 +7,31 @@ use Rattle.circuit_plans.specs.declared.roles.Role.TheVariants.{Input, Output, W
 use Rattle.format_parts.specs.Flips.{FlipTexts}
 use Rattle.qasm_format.specs.declared.naming.Naming.{Naming}
 use Rattle.qasm_format.specs.declared.naming.Naming.TheVariants.{ByRole, ByNumber}
-use Rattle.qasm_format.specs.Statements.{Argument, argument_words}
+use Rattle.qasm_format.specs.Statements.{Argument, one_of, argument_words}
 use Rattle.qasm_format.specs.Written.{gate_word}
 use Rattle.qasm_format.specs.Compiled.{register_name}
 use Rattle.qasm_format.specs.Converted.{kept_lines}
 
--- a name and a number in square brackets
-abbrev pub place_text : List ℕ → ℕ → List ℕ
-place_text name number = name ++ (codes "[" ++ (decimal number ++ codes "]"))
+-- a name and an opening bracket
+abbrev pub opened : List ℕ → List ℕ
+opened name = name ++ codes "["
 
-abbrev pub declaration_text : List ℕ → ℕ → List ℕ
-declaration_text name size = codes "qreg " ++ (place_text name size ++ codes ";\n")
+-- a number between two texts
+abbrev pub place_text : List ℕ → ℕ → List ℕ → List ℕ
+place_text front number back = front ++ (decimal number ++ back)
+
+abbrev pub declared_text : List ℕ → ℕ → List ℕ → List ℕ
+declared_text front size back = codes "qreg " ++ place_text front size back
 
 -- left out where it has no line
+abbrev pub registered_text : List ℕ → ℕ → List ℕ → List ℕ
+registered_text front size back = if size == 0 then [] else declared_text front size back
+
+abbrev pub declaration_text : List ℕ → ℕ → List ℕ
+declaration_text name size = declared_text (opened name) size (codes "];\n")
+
 abbrev pub register_text : List ℕ → ℕ → List ℕ
-register_text name size = if size == 0 then [] else declaration_text name size
+register_text name size = registered_text (opened name) size (codes "];\n")
 
 abbrev pub role_registers_text : Roles → List ℕ
 role_registers_text roles =
@@ -49,6 +59,13 @@ header_text naming = head_text ++ registers_text naming
 
 abbrev pub argument_text : Argument → List ℕ
 argument_text argument = concat (argument_words argument)
+
+-- its name and the opening bracket
+abbrev pub opened_in : Argument → List ℕ
+opened_in (one_of name digits) = opened name
+
+abbrev pub digits_in : Argument → List ℕ
+digits_in (one_of name digits) = digits
 
 abbrev pub word_text : ℕ → List ℕ
 word_text controls = gate_word controls ++ 32 ∷ []
