@@ -1,5 +1,5 @@
 // The writer of files, piece by piece.
-ghost use Rattle.std.specs.Prelude.{◌≡◌, ◌<◌, ◌≤◌, ◌∷◌, length, map, []};
+ghost use Rattle.std.specs.Prelude.{◌≡◌, ◌<◌, ◌≤◌, ◌∷◌, length, map, [], ⊤};
 ghost use Rattle.std.specs.Fmt.{decimal};
 ghost use Rattle.mct_circuit.specs.Gates.{AreNarrow};
 ghost use Rattle.circuit_plans.specs.declared.plan.TheConstants.{MOST_LINES, MOST_GATES};
@@ -154,22 +154,36 @@ impl Pieces for Marks<'_> {
 
 // ---- the gates
 
-// A space, and the name of a line: its letter and its number.
-type Name = (Byte, Byte, Decimal);
+// Two bytes, which are put at once.
+#[derive(Clone, Copy)]
+pub(crate) struct TwoBytes(u8, u8);
+
+impl Piece for TwoBytes {
+    ghost can_put = { λ _. ⊤ };
+
+    ghost bytes = { λ bytes. bytes.0 ∷ bytes.1 ∷ [] };
+
+    fn put<K: Sink>(self, buffer: &mut Buffer, out: &mut K) -> Result<(), Failed> {
+        buffer.put(out, &[self.0, self.1])
+    }
+}
+
+// A space and the letter of a line's name, and its number.
+type Name = (TwoBytes, Decimal);
 
 fn spaced_name(labels: Labels<'_>, line: u32) -> Name
     requires few { count_of labels ≤ MOST_LINES }
     requires in_range { line < count_of labels }
     ensures { 32 ∷ name_by labels.entry line
-        ≡ result.0.0 ∷ result.1.0 ∷ decimal result.2.0 }
+        ≡ result.0.0 ∷ result.0.1 ∷ decimal result.1.0 }
 {
     let (letter, number) = labels.letter_and_number(line);
-    (Byte(b' '), Byte(letter), Decimal(number as u64))
+    (TwoBytes(b' ', letter), Decimal(number as u64))
 }
 
 // A gate is `t` and the number of its lines, then their names, the target's last.
 impl FlipWriter for Labels<'_> {
-    type Word = (Byte, Decimal);
+    type Word = TwoBytes;
 
     type Control = Name;
 
@@ -179,8 +193,8 @@ impl FlipWriter for Labels<'_> {
 
     ghost texts = { λ labels. flip_texts (name_by labels) };
 
-    fn word(self, controls: usize) -> (Byte, Decimal) {
-        (Byte(b't'), Decimal(controls as u64 + 1))
+    fn word(self, controls: usize) -> TwoBytes {
+        TwoBytes(b't', b'1' + controls as u8)
     }
 
     fn control(self, line: u32) -> Name {
