@@ -1,5 +1,5 @@
 -- Where two products cannot be joined, and which one of a list is.
-use Rattle.std.proofs.Common.{◌≡◌, ◌⊎◌, inl, inr, ℕ, ◌+◌, ◌<◌, ◌≤◌, Bool, true, false, List, length, Option, Some, None, slice_get}
+use Rattle.std.proofs.Common.{◌≡◌, ◌⊎◌, inl, inr, ℕ, ◌+◌, ◌<◌, ◌≤◌, Bool, true, false, List, [], ◌∷◌, length, Option, Some, None, slice_get, get_or}
 use Rattle.std.proofs.Common.{refl, sym, ap, ◌∙◌, subst, arith, rules}
 use borrow.Author.Count.{below_more}
 use Rattle.std.specs.Cmp.{IsTotalOrder}
@@ -8,12 +8,15 @@ use Rattle.std.specs.Ordering.{is_gt, is_lt, ordering_reverse}
 use Rattle.std.specs.Option.{IfNone}
 use Rattle.std.specs.declared.cmp.Ordering.{Ordering}
 use Rattle.std.specs.declared.cmp.Ordering.TheVariants.{Less, Equal, Greater}
-use Rattle.std.proofs.lemmas.Bool.{true≢false}
+use Rattle.std.specs.List.{AllByRecursion, list_any}
+use Rattle.std.proofs.lemmas.Bool.{or_parts, true≢false}
 use Rattle.std.proofs.lemmas.Cmp.{lists_total, on_total, then_total, tied_itself, upto}
 use Rattle.std.proofs.lemmas.Option.{slice_get_within}
 use Rattle.list_facts.specs.Lists.{IsAmong}
 use Rattle.dependency_graph.specs.contracts.node.BasePartialEq.TheImpl.{eq-value}
 use Rattle.dependency_graph.specs.declared.node.Base.{Base}
+use Rattle.dependency_graph.specs.Folds.{is_same}
+use Rattle.dependency_graph.proofs.FoldLemmas.{same_itself}
 use Rattle.bit_sums.specs.declared.limits.TheConstants.{MOST_FACTOR_BITS}
 use Rattle.bit_sums.specs.declared.growing.Join.{Join}
 use Rattle.bit_sums.specs.Bits.{apart}
@@ -21,7 +24,7 @@ use Rattle.bit_sums.specs.Products.{IsProduct}
 use Rattle.bit_sums.specs.Sums.{ProductView}
 use Rattle.bit_sums.specs.inside.Firsts.{IsFirst, found_before}
 use Rattle.bit_sums.specs.inside.Joins.{AreLong, CanJoin, Cross, HasFactors, IsJoined, LacksFactor, ShareFactor, product_cmp}
-use Rattle.bit_sums.proofs.SetLemmas.{base_total}
+use Rattle.bit_sums.proofs.SetLemmas.{all-apart, base_total}
 
 -- ---- factors
 
@@ -118,6 +121,22 @@ pub none_joined : (p q : ProductView) → ¬ ShareFactor p q → ¬ Cross p q �
 none_joined p q shared crossed turned (inl s) = shared s
 none_joined p q shared crossed turned (inr (inl x)) = crossed x
 none_joined p q shared crossed turned (inr (inr x)) = turned x
+
+lacked : (x : Base) (bits : List Base) → list_any (is_same x) bits ≡ false → AllByRecursion (λ y. is_same x y ≡ false) bits
+lacked x [] none = tt
+lacked x (y ∷ ys) none =
+    let parts = or_parts (is_same x y) (list_any (is_same x) ys) none in
+    (parts.0, lacked x ys parts.1)
+
+-- no sum of two sets begins with a bit that both lack
+pub never_sum : (d : Base) (bits a b : List Base) → 0 < length bits → list_any (is_same (get_or bits 0 d)) a ≡ false
+    → list_any (is_same (get_or bits 0 d)) b ≡ false → bits ≡ apart a b → ⊥
+never_sum d [] a b some first second e = absurd (omega (arith, some))
+never_sum d (x ∷ xs) a b some first second e =
+    let all : AllByRecursion (λ y. is_same x y ≡ false) (x ∷ xs) =
+    subst (AllByRecursion (λ y. is_same x y ≡ false)) (sym e)
+    (all-apart (λ y. is_same x y ≡ false) a b (lacked x a first) (lacked x b second)) in
+    true≢false (sym (same_itself x) ∙ all.0)
 
 -- ---- the order of products
 

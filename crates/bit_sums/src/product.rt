@@ -1,6 +1,8 @@
 // Products of two sums of bits, and what two of them make.
-ghost use Rattle.std.specs.Prelude.{◌≡◌, ◌≢◌, ◌<◌, [], ◌∷◌, length, IfOk, IfSome, IfNone};
+ghost use Rattle.std.specs.Prelude.{◌≡◌, ◌≢◌, ◌<◌, [], ◌∷◌, length, false, IfOk, IfSome, IfNone};
 ghost use Rattle.std.specs.Bool.{xor};
+ghost use Rattle.std.specs.List.{list_any};
+ghost use Rattle.dependency_graph.specs.Folds.{is_same};
 ghost use Rattle.bit_sums.specs.Bits.{AreRising, HasOwn, apart};
 ghost use Rattle.bit_sums.specs.Products.{IsFactor, IsProduct, IsProductOf};
 ghost use Rattle.bit_sums.specs.inside.Joins.{AreLong, CanJoin, Cross, HasFactors, IsCrossing};
@@ -219,6 +221,9 @@ fn crossed(alloc: Global, p: &Product, q: &Product) -> Result<Option<Part>, Memo
         IfSome found (λ part. IsCrossing p.now q.now part.bits.items part.product)) }
     ensures none { IfOk result (λ found. IfNone found (¬ Cross p.now q.now)) }
 {
+    if !may_cross(p, q) {
+        return Ok(None);
+    }
     let sum = apart(alloc, p.first(), p.second())?;
     if q.second() == sum.as_slice() {
         return crossed_by(alloc, p, q.first());
@@ -227,6 +232,30 @@ fn crossed(alloc: Global, p: &Product, q: &Product) -> Result<Option<Part>, Memo
         return crossed_by(alloc, p, q.second());
     }
     Ok(None)
+}
+
+// Whether a factor of the second product begins with a bit of the first. Few pairs of products do,
+// and the sum of the first one's factors wants memory.
+fn may_cross(p: &Product, q: &Product) -> bool
+    ensures { result ≡ false → ¬ Cross p.now q.now }
+{
+    may_be_sum(q.second(), p) || may_be_sum(q.first(), p)
+}
+
+// Whether the first of the bits, where there is one, is among those of a product's factors.
+fn may_be_sum(bits: &[Base], p: &Product) -> bool
+    ensures { result ≡ false → bits.now ≢ apart p.now.first p.now.second }
+{
+    if bits.is_empty() {
+        return true;
+    }
+    has(p.first(), bits[0]) || has(p.second(), bits[0])
+}
+
+fn has(bits: &[Base], base: Base) -> bool
+    ensures { result ≡ list_any (is_same base) bits.now }
+{
+    bits.iter().any(|other| base == *other)
 }
 
 // The product of `a + c` and `b + c`, and the bits of `c`, where both sums have few bits.

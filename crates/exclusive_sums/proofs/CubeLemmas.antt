@@ -1,5 +1,5 @@
 -- Two cubes gone through side by side: their distance, and the cube with the third states.
-use Rattle.std.proofs.Common.{◌≡◌, ◌⊎◌, ℕ, ◌+◌, ◌<◌, ◌≤◌, Bool, true, false, not, ◌&&◌, cond, eqb, List, [], ◌∷◌, ◌++◌, length, map, drop, Option, Some, None}
+use Rattle.std.proofs.Common.{◌≡◌, ◌≢◌, ◌⊎◌, ℕ, ◌+◌, ◌<◌, ◌≤◌, Bool, true, false, not, ◌&&◌, cond, eqb, List, [], ◌∷◌, ◌++◌, length, map, drop, get_or, Option, Some, None}
 use Rattle.std.proofs.Common.{refl, sym, ap, ◌∙◌, subst, inl, inr, arith}
 use Rattle.std.specs.Bool.{xor}
 use Rattle.std.specs.List.{AllByRecursion, count_by}
@@ -158,6 +158,38 @@ differences_is (both l m ∷ ps) s =
 pub differences-aligned : (c d : List Literal) → IsCube c → IsCube d → differences (aligned by_input c d) ≡ distance_of c d
 differences-aligned c d a b =
     differences_is (aligned by_input c d) (steps_of c d a b) ∙ rw (lefts-aligned by_input c d, rights-aligned by_input c d) refl
+
+-- a cube has no more literals than the other one has, and inputs differ
+lefts_within : (ps : List (Pair Literal)) → length (lefts ps) ≤ length (rights ps) + differences ps
+lefts_within [] = omega arith
+lefts_within (left l ∷ ps) = omega (arith, lefts_within ps)
+lefts_within (right m ∷ ps) = omega (arith, lefts_within ps)
+lefts_within (both l m ∷ ps) = omega (arith, lefts_within ps)
+
+rights_within : (ps : List (Pair Literal)) → length (rights ps) ≤ length (lefts ps) + differences ps
+rights_within [] = omega arith
+rights_within (left l ∷ ps) = omega (arith, rights_within ps)
+rights_within (right m ∷ ps) = omega (arith, rights_within ps)
+rights_within (both l m ∷ ps) = omega (arith, rights_within ps)
+
+-- two cubes of as many literals that begin with different inputs
+begun_apart : (ps : List (Pair Literal)) (k : Literal) → AllByRecursion HaveOneInput ps → length (lefts ps) ≡ length (rights ps) → 0 < length (lefts ps)
+    → (get_or (lefts ps) 0 k).input ≢ (get_or (rights ps) 0 k).input → 1 < differences ps
+begun_apart [] k t same some other = absurd (omega (arith, some))
+begun_apart (left l ∷ ps) k t same some other = omega (arith, same, rights_within ps)
+begun_apart (right m ∷ ps) k t same some other = omega (arith, same, lefts_within ps)
+begun_apart (both l m ∷ ps) k t same some other = absurd (other t.0)
+
+pub begin_apart : (c d : List Literal) (k : Literal) → IsCube c → IsCube d → length c ≡ length d → 0 < length c
+    → (get_or c 0 k).input ≢ (get_or d 0 k).input → 1 < distance_of c d
+begin_apart c d k a b same some other =
+    let ps = aligned by_input c d in
+    let l : lefts ps ≡ c = lefts-aligned by_input c d in
+    let r : rights ps ≡ d = rights-aligned by_input c d in
+    let apart : 1 < differences ps =
+    begun_apart ps k (steps_of c d a b).tied (ap length l ∙ same ∙ sym (ap length r)) (subst (λ (e : List Literal). 0 < length e) (sym l) some)
+    (λ one. other (sym (ap (λ (e : List Literal). (get_or e 0 k).input) l) ∙ one ∙ ap (λ (e : List Literal). (get_or e 0 k).input) r)) in
+    omega (arith, apart, differences-aligned c d a b)
 
 -- ---- the joined cube
 

@@ -2,11 +2,12 @@
 use Rattle.std.proofs.Common.{◌≡◌, ℕ, ◌+◌, ◌<◌, List, [], ◌∷◌, ◌++◌, length, map, take, get_or, sym, ap, ◌∙◌}
 use Rattle.std.proofs.lemmas.List.{append_assoc, map-append, take_more}
 
--- one more element
-pub taken_more : {X : Type 0} (xs : List X) (k : ℕ) (x y : X) (so_far now : List X) → k < length xs → x ≡ get_or xs k x → y ≡ x
-    → now ≡ so_far ++ y ∷ [] → so_far ≡ take k xs → now ≡ take (k + 1) xs
-taken_more xs k x y so_far now inside at is pushed i =
-    pushed ∙ ap (λ z. z ++ y ∷ []) i ∙ ap (λ w. take k xs ++ w ∷ []) (is ∙ at) ∙ sym (take_more xs k x inside)
+-- one more element behind others
+pub appended_more : {X : Type 0} (xs : List X) (k : ℕ) (x : X) (start so_far now : List X) → k < length xs → x ≡ get_or xs k x
+    → now ≡ so_far ++ x ∷ [] → so_far ≡ start ++ take k xs → now ≡ start ++ take (k + 1) xs
+appended_more xs k x start so_far now inside at pushed i =
+    pushed ∙ ap (λ z. z ++ x ∷ []) i ∙ append_assoc start (take k xs) (x ∷ [])
+    ∙ ap (λ z. start ++ z) (ap (λ w. take k xs ++ w ∷ []) at ∙ sym (take_more xs k x inside))
 
 -- what is made of one more element
 pub filled_more : {X Y : Type 0} (f : X → Y) (xs : List X) (k : ℕ) (d : X) (y : Y) (start so_far now : List Y) → k < length xs → y ≡ f (get_or xs k d)

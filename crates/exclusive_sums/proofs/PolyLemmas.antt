@@ -5,7 +5,7 @@ use Rattle.std.specs.Bool.{xor}
 use Rattle.std.specs.Ordering.{nat_cmp}
 use Rattle.std.proofs.lemmas.List.{append-nil}
 use Rattle.std.proofs.Math.ListN.{drop_of_length-le}
-use Rattle.revs_tape.specs.inside.Aligned.{right, aligned, key_of}
+use Rattle.revs_tape.specs.inside.Aligned.{right, aligned, alone, key_of}
 use Rattle.revs_tape.specs.Polynomials.{value_of_polynomial, IsPolynomial, IsPolynomialOf}
 use Rattle.revs_tape.specs.inside.Sums.{union_of, exclusive_sum_of}
 use Rattle.list_facts.proofs.BitLemmas.{xor_one, xor_nothing}
@@ -25,6 +25,20 @@ keys-lefts_only (i ∷ is) = ap (λ ks. i ∷ ks) (keys-lefts_only is)
 pub union_left_over : (m n : List ℕ) (i j : ℕ) → (length m ≤ i) ⊎ (length n ≤ j) → union_of (drop i m) (drop j n) ≡ drop i m ++ drop j n
 union_left_over m n i j (inl h) = rw (drop_of_length-le m h) (keys-rights_only (drop j n))
 union_left_over m n i j (inr h) = rw (drop_of_length-le n h) (keys-lefts_only (drop i m) ∙ sym (append-nil (drop i m)))
+
+-- ---- what is left of a sum at the end of the other
+
+alone-rights_only : (q : List (List ℕ)) → alone (map right q) ≡ q
+alone-rights_only [] = refl
+alone-rights_only (n ∷ ns) = ap (λ ms. n ∷ ms) (alone-rights_only ns)
+
+alone-lefts_only : (p : List (List ℕ)) → exclusive_sum_of p [] ≡ p
+alone-lefts_only [] = refl
+alone-lefts_only (m ∷ ms) = ap (λ ns. m ∷ ns) (alone-lefts_only ms)
+
+pub sum_left_over : (p q : List (List ℕ)) (i j : ℕ) → (length p ≤ i) ⊎ (length q ≤ j) → exclusive_sum_of (drop i p) (drop j q) ≡ drop i p ++ drop j q
+sum_left_over p q i j (inl h) = rw (drop_of_length-le p h) (alone-rights_only (drop j q))
+sum_left_over p q i j (inr h) = rw (drop_of_length-le q h) (alone-lefts_only (drop i p) ∙ sym (append-nil (drop i p)))
 
 -- ---- inputs
 

@@ -1,14 +1,18 @@
 -- A step of the code through two lists in order: what stands first in them, and how far each list goes.
 use mir.Val.{bool_byte}
 use Rattle.std.proofs.Common.{◌≡◌, ◌⊎◌, ℕ, suc, ◌+◌, ◌<◌, ◌≤◌, min, leb, ltb, eqb, Bool, true, false, not, ◌&&◌, List, [], ◌∷◌, ◌++◌, length, drop, get_or}
-use Rattle.std.proofs.Common.{refl, inl, inr, arith}
+use Rattle.std.proofs.Common.{refl, sym, ap, ◌∙◌, inl, inr, arith}
+use Rattle.std.specs.Cmp.Lexicographic.{slice_cmp}
 use Rattle.std.specs.Option.{option_to_list}
+use Rattle.std.specs.Ordering.{nat_cmp, is_ge, is_le}
+use Rattle.std.specs.declared.cmp.Ordering.{Ordering}
+use Rattle.std.specs.declared.cmp.Ordering.TheVariants.{Less, Equal, Greater}
 use Rattle.std.proofs.lemmas.Bool.{cases_Bool, cases_lt, lt-ltb, le-ltb, le-leb, lt-leb, eq-eqb, ne_eqb}
 use Rattle.std.proofs.lemmas.List.{append_assoc}
 use Rattle.std.proofs.Math.Seq.{drop-cons}
-use Rattle.list_facts.proofs.CutLemmas.{advanced}
-use Rattle.revs_tape.specs.inside.Aligned.{aligned}
-use Rattle.revs_tape.specs.inside.Sums.{union_of}
+use Rattle.list_facts.proofs.CutLemmas.{advanced, drop_read}
+use Rattle.revs_tape.specs.inside.Aligned.{aligned, by_order}
+use Rattle.revs_tape.specs.inside.Sums.{exclusive_sum_of, union_of}
 use Rattle.exclusive_sums.specs.declared.cube.Literal.{Literal}
 use Rattle.exclusive_sums.specs.Cubes.{same_sign}
 use Rattle.exclusive_sums.specs.inside.Merging.{by_input, differences, third_of, thirds}
@@ -98,6 +102,27 @@ union_step left right so_far now whole i j a b low high by_a by_b put was =
     let begun = rw (drop-cons left i 0 low, drop-cons right j 0 high) at was in
     let first = rw (union_first m n (drop (suc i) left) (drop (suc j) right) (order m n)) at begun in
     rw (put, by_a, by_b, advanced left i 0 (leb m n) low, advanced right j 0 (leb n m) high, append_assoc) first
+
+first_apart : (x y : List ℕ) (xs ys : List (List ℕ)) (o : Ordering) → slice_cmp nat_cmp x y ≡ o
+    → exclusive_sum_of (x ∷ xs) (y ∷ ys) ≡ by_order o (x ∷ []) [] (y ∷ [])
+    ++ exclusive_sum_of (drop (bool_byte (is_le o)) (x ∷ xs)) (drop (bool_byte (is_ge o)) (y ∷ ys))
+first_apart x y xs ys Less e = rw e refl
+first_apart x y xs ys Equal e = rw e refl
+first_apart x y xs ys Greater e = rw e refl
+
+passed : (xs : List (List ℕ)) (i : ℕ) (x : List ℕ) (t : Bool) → i < length xs → x ≡ get_or xs i x
+    → drop (i + bool_byte t) xs ≡ drop (bool_byte t) (x ∷ drop (i + 1) xs)
+passed xs i x true low is = refl
+passed xs i x false low is = let none : i + 0 ≡ i = omega arith in ap (λ (n : ℕ). drop n xs) none ∙ drop_read xs i x low is
+
+pub exclusive_sum_step : (left right so_far now whole : List (List ℕ)) (i j a b : ℕ) (x y : List ℕ) (o : Ordering) → i < length left → j < length right
+    → x ≡ get_or left i x → y ≡ get_or right j y → o ≡ slice_cmp nat_cmp x y → a ≡ bool_byte (is_le o) → b ≡ bool_byte (is_ge o)
+    → now ≡ so_far ++ by_order o (x ∷ []) [] (y ∷ []) → so_far ++ exclusive_sum_of (drop i left) (drop j right) ≡ whole
+    → now ++ exclusive_sum_of (drop (i + a) left) (drop (j + b) right) ≡ whole
+exclusive_sum_step left right so_far now whole i j a b x y o low high is_x is_y is by_a by_b put was =
+    let begun = rw (drop_read left i x low is_x, drop_read right j y high is_y) at was in
+    let first = rw (first_apart x y (drop (i + 1) left) (drop (j + 1) right) o (sym is)) at begun in
+    rw (put, by_a, by_b, passed left i x (is_le o) low is_x, passed right j y (is_ge o) high is_y, append_assoc) first
 
 -- no literal, where a list has ended
 abbrev none : Literal

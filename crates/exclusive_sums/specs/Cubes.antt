@@ -1,5 +1,5 @@
--- Cubes are products of literals, and sums (by exclusive or) of cubes are merged while two of them are at
--- distance 0 or 1.
+-- Cubes are products of literals, and sums (by exclusive or) of cubes are merged while two of them
+-- are at distance 0 or 1.
 use Rattle.std.specs.Prelude.{◌≡◌, ℕ, ◌+◌, ◌<◌, ◌≤◌, ◌==◌, Bool, true, false, not, if◌then◌else◌, List, [], ◌∷◌, ◌++◌, length, map, Option, Some, None}
 use Rattle.std.specs.Prelude.{slice_index_or}
 use Rattle.std.specs.Bool.{beq, xor}
@@ -51,8 +51,8 @@ same_state None (Some b) = false
 same_state (Some a) None = false
 same_state (Some a) (Some b) = same_sign a b
 
--- how many inputs differ in their states: those that the first cube has and the second has not so, and those
--- that only the second has
+-- how many inputs differ in their states: those that the first cube has and the second has not so,
+-- and those that only the second has
 abbrev pub distance_of : List Literal → List Literal → ℕ
 distance_of c d =
     count_by (λ (l : Literal). not (same_state (Some l.positive) (state_of d l.input))) c
@@ -97,8 +97,8 @@ pub record IsFirstClosePair (cubes : List (List Literal)) (i j : ℕ) : Type 0 w
 abbrev pub without_pair : List (List Literal) → ℕ → ℕ → List (List Literal)
 without_pair cubes i j = remove (remove cubes j) i
 
--- The cubes are merged as long as there is a close pair: two equal cubes cancel, and two at distance 1 become
--- one at the end.
+-- The cubes are merged as long as there is a close pair: two equal cubes cancel, and two at
+-- distance 1 become one at the end.
 pub data Merges : List (List Literal) → List (List Literal) → Type 0 where
   done : (cubes : List (List Literal)) → AreFarApart cubes → Merges cubes cubes
   cancelled : (cubes last : List (List Literal)) (i j : ℕ)
@@ -123,8 +123,8 @@ cubes_of monomials = map (map positive) monomials
 
 -- ---- what merging keeps
 
--- The exclusive sum of the cubes is the polynomial, in at most as many cubes, over its inputs, and no two cubes
--- are equal or at distance 1.
+-- The exclusive sum of the cubes is the polynomial, in at most as many cubes, over its inputs, and
+-- no two cubes are equal or at distance 1.
 pub record IsExclusiveSumOf (monomials : List (List ℕ)) (cubes : List (List Literal)) : Type 0 where
   pub values : (x : ℕ → Bool) → value_of_cubes x cubes ≡ value_of_polynomial x monomials
   pub few : length cubes ≤ length monomials

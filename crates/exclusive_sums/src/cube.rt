@@ -1,5 +1,5 @@
 // Cubes, products of literals, and their distance.
-ghost use Rattle.std.specs.Prelude.{◌≡◌, ◌++◌, map, IfOk, OnOk, List};
+ghost use Rattle.std.specs.Prelude.{◌≡◌, ◌<◌, ◌≤◌, ◌++◌, map, true, false, IfOk, OnOk, List};
 ghost use Rattle.std.specs.Option.{option_to_list};
 ghost use Rattle.list_facts.specs.Lists.{IsRising};
 ghost use Rattle.exclusive_sums.specs.Cubes.{IsCube, IsJoined, distance_of, positive};
@@ -77,6 +77,20 @@ pub fn distance(left: &[Literal], right: &[Literal]) -> usize
         j += usize::from(m.input <= l.input);
     }
     count + (left.len() - i) + (right.len() - j)
+}
+
+// Whether at most one input differs in its state. Two cubes of as many literals that begin with
+// different inputs differ in more.
+pub fn are_close(left: &[Literal], right: &[Literal]) -> bool
+    requires left { IsCube left.now }
+    requires right { IsCube right.now }
+    ensures close { result ≡ true → distance_of left.now right.now ≤ 1 }
+    ensures far { result ≡ false → 1 < distance_of left.now right.now }
+{
+    if left.len() == right.len() && !left.is_empty() && left[0].input != right[0].input {
+        return false;
+    }
+    distance(left, right) <= 1
 }
 
 // The cube with the third state of the one input whose states differ.

@@ -6,7 +6,7 @@ ghost use Rattle.exclusive_sums.specs.Cubes.{AreFarApart, IsExclusiveSumOf, IsFi
 ghost use Rattle.exclusive_sums.specs.Cubes.{Merges, cubes_of, distance_at};
 ghost use Rattle.exclusive_sums.specs.inside.Merging.{IsCloseBehind, IsStep};
 
-use crate::cube::{Cube, distance, joined, positive_cube};
+use crate::cube::{Cube, are_close, distance, joined, positive_cube};
 use crate::monomial::Monomial;
 use crate::poly::Poly;
 use revc_base::Memory;
@@ -61,8 +61,9 @@ fn first_close_to(cubes: &[Cube], first: usize) -> Option<usize>
         → 1 < distance_at cubes.now first k }
     ensures some { IfSome result (λ second. IsCloseBehind cubes.now first second) }
 {
+    let left = cubes[first].literals();
     for second in first + 1..cubes.len() {
-        if distance(cubes[first].literals(), cubes[second].literals()) <= 1 {
+        if are_close(left, cubes[second].literals()) {
             return Some(second);
         }
     }

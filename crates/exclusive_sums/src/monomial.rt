@@ -1,15 +1,14 @@
 // Monomials, products of inputs, and sums of monomials in the dictionary's order.
-ghost use Rattle.std.specs.Prelude.{◌≡◌, ◌+◌, ◌<◌, [], ◌∷◌, ◌++◌, length, Some, IfOk, OnOk, List};
+ghost use Rattle.std.specs.Prelude.{◌≡◌, [], ◌∷◌, ◌++◌, IfOk, OnOk, List};
 ghost use Rattle.std.specs.Ordering.{nat_cmp};
 ghost use Rattle.std.specs.Cmp.Lexicographic.{slice_cmp};
 ghost use Rattle.std.specs.Prelude.{ℕ};
 ghost use Rattle.revs_tape.specs.inside.Sums.{exclusive_sum_of, union_of};
-ghost use Rattle.exclusive_sums.specs.inside.Products.{MovesFront, order_of_fronts as fronts};
+ghost use Rattle.revs_tape.specs.inside.Aligned.{by_order};
 
 use revc_base::{Key, Memory};
 use std::alloc::Global;
 use std::cmp::Ordering;
-use std::collections::VecDeque;
 use std::marker::Model;
 
 // A product of inputs, which rise. Contracts see it as the list of its inputs.
@@ -88,77 +87,58 @@ impl Monomial {
     }
 }
 
-pub fn copies(alloc: Global, monomials: &[Monomial]) -> Result<Vec<Monomial>, Memory>
-    ensures { IfOk result (λ copies. copies.items ≡ monomials.now) }
+// Appends copies of monomials.
+fn push_copies(all: &mut Vec<Monomial>, more: &[Monomial]) -> Result<(), Memory>
+    ensures { OnOk result (all.new.items ≡ all.old.items ++ more.now) }
 {
-    let mut copies = Vec::with_capacity(alloc, monomials.len())?;
-    for monomial in monomials {
-        copies.push(monomial.copy()?)?;
+    for monomial in more {
+        push_copy(all, monomial)?;
     }
-    Ok(copies)
+    Ok(())
 }
 
 // The sum of two sums in order: what stands in one of them and not in the other, in order.
 pub fn exclusive_sum(
     alloc: Global,
-    left: Vec<Monomial>,
-    right: Vec<Monomial>,
+    left: &[Monomial],
+    right: &[Monomial],
 ) -> Result<Vec<Monomial>, Memory>
-    ensures { IfOk result (λ sum. sum.items ≡ exclusive_sum_of left.items right.items) }
+    ensures { IfOk result (λ sum. sum.items ≡ exclusive_sum_of left.now right.now) }
 {
-    let mut sum = Vec::new(alloc);
-    let (mut left, mut right) = (VecDeque::from(left), VecDeque::from(right));
-    while let Some(order) = order_of_fronts(&left, &right) {
-        step(&mut left, &mut right, &mut sum, order)?;
+    let mut sum = Vec::with_capacity(alloc, left.len() + right.len())?;
+    let (mut i, mut j) = (0, 0);
+    while i < left.len() && j < right.len() {
+        let (x, y) = (&left[i], &right[j]);
+        let order = x.order(y);
+        push_lesser(&mut sum, x, y, order)?;
+        i += usize::from(order.is_le());
+        j += usize::from(order.is_ge());
     }
+    push_copies(&mut sum, &left[i..])?;
+    push_copies(&mut sum, &right[j..])?;
     Ok(sum)
 }
 
-// How the first monomials compare; a list that has ended comes last.
-fn order_of_fronts(left: &VecDeque<Monomial>, right: &VecDeque<Monomial>) -> Option<Ordering>
-    ensures { result ≡ fronts left.now.items right.now.items }
-{
-    match (left.front(), right.front()) {
-        (Some(x), Some(y)) => Some(x.order(y)),
-        (Some(_), None) => Some(Ordering::Less),
-        (None, Some(_)) => Some(Ordering::Greater),
-        (None, None) => None,
-    }
-}
-
-// Moves the lesser of the first monomials to the sum, or drops both where they are equal.
-fn step(
-    left: &mut VecDeque<Monomial>,
-    right: &mut VecDeque<Monomial>,
+// Appends a copy of the lesser of two monomials, and none where they are one.
+fn push_lesser(
     sum: &mut Vec<Monomial>,
+    x: &Monomial,
+    y: &Monomial,
     order: Ordering,
 ) -> Result<(), Memory>
-    requires { fronts left.old.items right.old.items ≡ Some order }
-    ensures sum { OnOk result
-        (sum.new.items ++ exclusive_sum_of left.new.items right.new.items
-        ≡ sum.old.items ++ exclusive_sum_of left.old.items right.old.items) }
-    ensures shorter { OnOk result
-        (length left.new.items + length right.new.items
-        < length left.old.items + length right.old.items) }
+    ensures { OnOk result (sum.new.items
+        ≡ sum.old.items ++ by_order order (x.now ∷ []) [] (y.now ∷ [])) }
 {
     match order {
-        Ordering::Less => move_front(left, sum),
-        Ordering::Greater => move_front(right, sum),
-        Ordering::Equal => {
-            drop(left.pop_front());
-            drop(right.pop_front());
-            Ok(())
-        }
+        Ordering::Less => push_copy(sum, x),
+        Ordering::Greater => push_copy(sum, y),
+        Ordering::Equal => Ok(()),
     }
 }
 
-fn move_front(from: &mut VecDeque<Monomial>, to: &mut Vec<Monomial>) -> Result<(), Memory>
-    requires { 0 < length from.old.items }
-    ensures { OnOk result (MovesFront from.old.items from.new.items to.old.items to.new.items) }
+fn push_copy(sum: &mut Vec<Monomial>, monomial: &Monomial) -> Result<(), Memory>
+    ensures { OnOk result (sum.new.items ≡ sum.old.items ++ monomial.now ∷ []) }
 {
-    let Some(first) = from.pop_front() else {
-        unreachable!()
-    };
-    to.push(first)?;
+    sum.push(monomial.copy()?)?;
     Ok(())
 }

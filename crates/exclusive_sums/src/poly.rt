@@ -8,7 +8,7 @@ ghost use Rattle.exclusive_sums.specs.Limits.{LimitsAre, IsPolynomialUpTo};
 ghost use Rattle.exclusive_sums.specs.declared.poly.TheConstants.{MOST_MONOMIALS};
 ghost use Rattle.exclusive_sums.specs.inside.Products.{IsProduct};
 
-use crate::monomial::{Monomial, copies, exclusive_sum};
+use crate::monomial::{Monomial, exclusive_sum};
 use crate::products::{in_order, product};
 use indexmap::IndexSet;
 use revc_base::Memory;
@@ -62,7 +62,7 @@ impl Poly {
     {
         let alloc = *self.monomials.allocator();
         let one = Vec::from_array(alloc, [Monomial::one(alloc)])?;
-        let sum = exclusive_sum(alloc, one, copies(alloc, &self.monomials)?)?;
+        let sum = exclusive_sum(alloc, &one, &self.monomials)?;
         Ok(limited(sum))
     }
 
@@ -75,9 +75,7 @@ impl Poly {
             IfSome answer (AreOverInputsOf (self.now ++ other.now))) }
     {
         let alloc = *self.monomials.allocator();
-        let left = copies(alloc, &self.monomials)?;
-        let right = copies(alloc, &other.monomials)?;
-        let sum = exclusive_sum(alloc, left, right)?;
+        let sum = exclusive_sum(alloc, &self.monomials, &other.monomials)?;
         Ok(limited(sum))
     }
 

@@ -10,16 +10,14 @@ use Rattle.exclusive_sums.proofs.poly.Poly.xor.Goals as goal
 pub limited-requires : goal.limited-requires
 limited-requires c =
     let sum : c.in_ok-sum.sum.items ≡ exclusive_sum_of c.args.self.now c.args.other.now =
-    sum_of_equal c.in_ok-sum.ensures (c.in_ok-left.ensures ∙ c.deref.ensures.value ∙ c.self.view_is)
-    (c.in_ok-right.ensures ∙ c.deref-2.ensures.value ∙ c.other.view_is) in
+    sum_of_equal c.in_ok-sum.ensures (c.deref.ensures.value ∙ c.self.view_is) (c.deref-2.ensures.value ∙ c.other.view_is) in
     subst IsPolynomial (sym sum)
     (IsPolynomial-exclusive_sum_of _ _ (subst IsPolynomial c.self.view_is c.self.invariant.0) (subst IsPolynomial c.other.view_is c.other.invariant.0))
 
 pub returns-clause-polynomial : goal.returns-clause-polynomial
 returns-clause-polynomial c =
     let sum : c.in_ok-sum.sum.items ≡ exclusive_sum_of c.args.self.now c.args.other.now =
-    sum_of_equal c.in_ok-sum.ensures (c.in_ok-left.ensures ∙ c.deref.ensures.value ∙ c.self.view_is)
-    (c.in_ok-right.ensures ∙ c.deref-2.ensures.value ∙ c.other.view_is) in
+    sum_of_equal c.in_ok-sum.ensures (c.deref.ensures.value ∙ c.self.view_is) (c.deref-2.ensures.value ∙ c.other.view_is) in
     up_to_from_sum _ c.args.self.now c.args.other.now _ (subst IsPolynomial c.self.view_is c.self.invariant.0)
     (subst IsPolynomial c.other.view_is c.other.invariant.0)
     (rw sum at c.limited.ensures)
@@ -27,7 +25,6 @@ returns-clause-polynomial c =
 pub returns-clause-inputs : goal.returns-clause-inputs
 returns-clause-inputs c =
     let sum : c.in_ok-sum.sum.items ≡ exclusive_sum_of c.args.self.now c.args.other.now =
-    sum_of_equal c.in_ok-sum.ensures (c.in_ok-left.ensures ∙ c.deref.ensures.value ∙ c.self.view_is)
-    (c.in_ok-right.ensures ∙ c.deref-2.ensures.value ∙ c.other.view_is) in
+    sum_of_equal c.in_ok-sum.ensures (c.deref.ensures.value ∙ c.self.view_is) (c.deref-2.ensures.value ∙ c.other.view_is) in
     if_answered (AreOverInputsOf (c.args.self.now ++ c.args.other.now)) _ (exclusive_sum_of c.args.self.now c.args.other.now) _ (rw sum at c.limited.ensures)
     (over_sum c.args.self.now c.args.other.now)
