@@ -1,7 +1,7 @@
 // The tests of revs_lexer.
 
 use revc_base::Place;
-use revs_lexer::{LexFault, Tok, Token, tokens};
+use revs_lexer::{Kind, LexFault, Rest, TokenList, tokens};
 use std::alloc::Global;
 use std::fmt::Write;
 use std::test::Fail;
@@ -13,30 +13,41 @@ fn show_name(out: &mut String, name: &[u8]) -> Result<(), Fail> {
     Ok(())
 }
 
-// How a token reads.
-fn show_tok(out: &mut String, tok: &Tok) -> Result<(), Fail> {
-    match tok {
-        Tok::Name(name) => show_name(out, name.bytes()),
-        Tok::Number(value) => Ok(write!(out, "{value}")?),
-        Tok::Word(word) => Ok(write!(out, "{word:?}")?),
-        Tok::Sign(sign) => Ok(write!(out, "{sign:?}")?),
-        Tok::End => Ok(out.push_str("End")?),
+// The name that stands first.
+fn show_first_name(out: &mut String, tokens: Rest) -> Result<(), Fail> {
+    match tokens.split_name() {
+        Some((name, _, _)) => show_name(out, name),
+        None => Ok(()),
     }
 }
 
-// The place of a token, and how it reads.
-fn show(out: &mut String, token: &Token) -> Result<(), Fail> {
-    let line = token.at.line;
-    let column = token.at.column;
+// How the first token reads, which is of this kind.
+fn show_first(out: &mut String, tokens: Rest, kind: Kind) -> Result<(), Fail> {
+    match kind {
+        Kind::Name { .. } => show_first_name(out, tokens),
+        Kind::Number(value) => Ok(write!(out, "{value}")?),
+        Kind::Word(word) => Ok(write!(out, "{word:?}")?),
+        Kind::Sign(sign) => Ok(write!(out, "{sign:?}")?),
+        Kind::End => Ok(out.push_str("End")?),
+    }
+}
+
+// The place of the first token, and how it reads.
+fn show(out: &mut String, tokens: Rest) -> Result<(), Fail> {
+    let Some((kind, at, _)) = tokens.split_first() else {
+        return Ok(());
+    };
+    let line = at.line;
+    let column = at.column;
     write!(out, "{line}:{column} ")?;
-    show_tok(out, &token.tok)?;
+    show_first(out, tokens, kind)?;
     Ok(out.push_str(", ")?)
 }
 
-fn shown(alloc: Global, tokens: &[Token]) -> Result<String, Fail> {
+fn shown(alloc: Global, list: &TokenList) -> Result<String, Fail> {
     let mut out = String::new(alloc);
-    for token in tokens {
-        show(&mut out, token)?;
+    for from in 0..list.len() {
+        show(&mut out, Rest { list, from })?;
     }
     Ok(out)
 }

@@ -1,4 +1,6 @@
+pub mod Kinds
 pub mod inside
 pub mod Limits
+pub mod Rest
 pub mod Spelling
 pub mod Tokens

@@ -55,7 +55,8 @@ abbrev pub is_identifier : List ℕ → Bool
 is_identifier [] = false
 is_identifier (b ∷ bs) = is_letter b && list_all is_name_byte bs
 
--- Which bytes spell a token, however long they are: an identifier is a word, or else a name, and digits are their value.
+-- Which bytes spell a token, however long they are: an identifier is a word, or else a name, and
+-- digits are their value.
 abbrev pub Spells : List ℕ → Tok → Type 0
 Spells bytes (toks.Name name) = IsTrue (is_identifier bytes) × ((w : Word) → bytes ≢ word_text w)
     × (name ≡ bytes)

@@ -6,7 +6,8 @@ ghost use Rattle.std.specs.List.{find, starts_with};
 ghost use Rattle.std.specs.Str.{bytes_eq};
 ghost use Rattle.revc_base.specs.declared.limits.TheConstants.{MOST_NAME_BYTES};
 ghost use Rattle.text_places.specs.Gaps.{HasNoGap};
-ghost use Rattle.revs_lexer.specs.inside.Pieces.{BeginsShortName, Takes};
+ghost use Rattle.revs_lexer.specs.inside.Pieces.{TakesFrom, StandsSo};
+ghost use Rattle.revs_lexer.specs.Kinds.{tok_of};
 ghost use Rattle.revs_lexer.specs.Spelling.{word_text, sign_text, is_identifier, Spells};
 ghost use Rattle.revs_lexer.specs.Spelling.{IsWithinLimits};
 ghost use Rattle.revs_lexer.specs.Tokens.{IsLongest, Refuses, IsTokens, IsRefused, closed, IsEnded};
@@ -17,8 +18,9 @@ ghost use Rattle.revs_lexer.specs.declared.token.Token.{Token};
 ghost use Rattle.revs_lexer.specs.declared.word.Word.{Word};
 ghost use Rattle.revs_lexer.specs.Limits.{LimitsAre};
 
-use crate::{LexFault, Sign, Tok, Token, Word};
-use revc_base::{Memory, Place, Text};
+use crate::packed::{Packed, TokenList};
+use crate::{Kind, LexFault, Sign, Word};
+use revc_base::{Place, Text};
 use std::alloc::Global;
 use text_places::{digits_len, gap_len, is_letter, name_len, number, place_after};
 
@@ -90,90 +92,105 @@ fn single_sign(byte: u8) -> Option<Sign>
     }
 }
 
-// The word or the name that the bytes spell.
-fn name(alloc: Global, bytes: &[u8]) -> Result<Tok, Memory>
+// The word or the name that the bytes spell, which begin at this byte of the text.
+fn name(bytes: &[u8], start: u32) -> Kind
     requires identifier { IsTrue (is_identifier bytes.now) }
+    requires some { 1 ≤ length bytes.now }
     requires few { length bytes.now ≤ MOST_NAME_BYTES }
-    ensures spelled { IfOk result (Spells bytes.now) }
-    ensures within { IfOk result (IsWithinLimits bytes.now) }
+    ensures spelled { Spells bytes.now (tok_of result bytes.now) }
+    ensures within { IsWithinLimits bytes.now (tok_of result bytes.now) }
+    ensures stands { StandsSo start (length bytes.now) result }
 {
     match word_of(bytes) {
-        Some(word) => Ok(Tok::Word(word)),
-        None => Ok(Tok::Name(Text::new(alloc, bytes)?)),
+        Some(word) => Kind::Word(word),
+        None => Kind::Name {
+            length: bytes.len() as u8,
+            start,
+        },
     }
 }
 
-// The longest token at the front of the text, and how many bytes it has.
-fn token(alloc: Global, text: &[u8], at: Place) -> Result<(Tok, usize), LexFault>
+// The longest token at the front of the text, and how many bytes it has; the text begins at this
+// byte of a longer one.
+fn token(text: &[u8], start: u32, at: Place) -> Result<(Kind, usize), LexFault>
     requires some { 0 < length text.now }
     requires no_gap { HasNoGap text.now }
     ensures in_range { IfOk result (λ found. (0 < found.1) × (found.1 ≤ length text.now)) }
     ensures longest { IfOk result (λ found. IsLongest text.now (take found.1 text.now)
-        (drop found.1 text.now) found.0) }
-    ensures within { IfOk result (λ found. IsWithinLimits (take found.1 text.now) found.0) }
-    ensures refused { IfErr result (λ fault.
-        fault ≢ LexFault.Memory _ → Refuses at text.now fault) }
-    ensures memory { IsErrOf result (LexFault.Memory _) → BeginsShortName text.now }
+        (drop found.1 text.now) (tok_of found.0 (take found.1 text.now))) }
+    ensures within { IfOk result (λ found. IsWithinLimits (take found.1 text.now)
+        (tok_of found.0 (take found.1 text.now))) }
+    ensures stands { IfOk result (λ found. StandsSo start found.1 found.0) }
+    ensures refused { IfErr result (λ fault. Refuses at text.now fault) }
 {
     if is_letter(text[0]) {
         let len = name_len(text);
         if len > Text::MOST {
             return Err(LexFault::LongName(at));
         }
-        return Ok((name(alloc, &text[..len])?, len));
+        return Ok((name(&text[..len], start), len));
     }
     if text[0].is_ascii_digit() {
         let len = digits_len(text);
         if len > MOST_DIGITS {
             return Err(LexFault::LongNumber(at));
         }
-        return Ok((Tok::Number(number(&text[..len])), len));
+        return Ok((Kind::Number(number(&text[..len])), len));
     }
     match sign_at(text) {
-        Some(sign) => Ok((Tok::Sign(sign), sign.text().len())),
+        Some(sign) => Ok((Kind::Sign(sign), sign.text().len())),
         None => Err(LexFault::BadByte(at)),
     }
 }
 
-// Takes the piece at the front of the text, and keeps it where it is a token. The result is its
-// length.
-fn take_piece(tokens: &mut Vec<Token>, text: &[u8], at: Place) -> Result<usize, LexFault>
+// Takes the piece at the front of the text, and keeps it where it is a token; the text begins at
+// this byte of a longer one. The result is its length.
+fn take_piece(
+    packed: &mut Vec<Packed>,
+    text: &[u8],
+    start: u32,
+    at: Place,
+) -> Result<usize, LexFault>
     requires { 0 < length text.now }
     ensures in_range { IfOk result (λ len. (0 < len) × (len ≤ length text.now)) }
-    ensures taken { IfOk result (λ len. Takes at text.now len tokens.old.items tokens.new.items) }
+    ensures taken { IfOk result (λ len.
+        TakesFrom start at text.now len packed.old.items packed.new.items) }
     ensures refused { IfErr result (λ fault.
         fault ≢ LexFault.Memory _ → Refuses at text.now fault) }
-    ensures kept { OnErr result (tokens.new.items ≡ tokens.old.items) }
 {
     let gap = gap_len(text);
     if gap > 0 {
         return Ok(gap);
     }
-    let alloc = *tokens.allocator();
-    let (tok, len) = token(alloc, text, at)?;
-    tokens.push(Token { tok, at })?;
+    let (kind, len) = token(text, start, at)?;
+    packed.push(Packed { kind, at })?;
     Ok(len)
 }
 
 // The tokens or the first refusal.
-fn cut(alloc: Global, text: &[u8]) -> Result<Vec<Token>, LexFault>
+fn cut<'t>(alloc: Global, text: &'t [u8]) -> Result<TokenList<'t>, LexFault>
     requires { length text.now + 1 < 2 ^ 32 }
     ensures tokens { IfOk result (λ all. (ts : List Token) × IsTokens text.now ts
-        × (all.items ≡ closed text.now ts)) }
+        × (all ≡ closed text.now ts)) }
     ensures refused { IfErr result (λ fault.
         fault ≢ LexFault.Memory _ → IsRefused text.now fault) }
 {
-    let mut tokens = Vec::new(alloc);
+    let mut packed = Vec::new(alloc);
     let mut at = Place { line: 1, column: 1 };
+    let mut start = 0;
     let mut rest = text;
     while !rest.is_empty() {
-        let len = take_piece(&mut tokens, rest, at)?;
+        let len = take_piece(&mut packed, rest, start, at)?;
         let (piece, left) = rest.split_at(len);
         at = place_after(at, piece);
+        start += len as u32;
         rest = left;
     }
-    tokens.push(Token { tok: Tok::End, at })?;
-    Ok(tokens)
+    packed.push(Packed {
+        kind: Kind::End,
+        at,
+    })?;
+    Ok(TokenList::new(text, packed))
 }
 
 /// The tokens of the text, each with the place of its first byte, and then `End` at the place after
@@ -187,14 +204,14 @@ fn cut(alloc: Global, text: &[u8]) -> Result<Vec<Token>, LexFault>
 /// The first place at which the text cannot be cut so: `BadByte` where no token, blank or comment
 /// begins, `LongName` at a name of more than 64 bytes, `LongNumber` at a number of more than 4
 /// digits. Beside that only `Memory`.
-pub fn tokens(alloc: Global, text: &[u8]) -> Result<Vec<Token>, LexFault>
+pub fn tokens<'t>(alloc: Global, text: &'t [u8]) -> Result<TokenList<'t>, LexFault>
     requires { length text.now + 1 < 2 ^ 32 }
 
     // The tokens of the text and no others.
     ensures tokens { IfOk result (λ all. (ts : List Token) × IsTokens text.now ts
-        × (all.items ≡ closed text.now ts)) }
+        × (all ≡ closed text.now ts)) }
     ensures only_tokens { (ts : List Token) → IsTokens text.now ts →
-        MatchResult result (λ all. all.items ≡ closed text.now ts) (λ fault. fault
+        MatchResult result (λ all. all ≡ closed text.now ts) (λ fault. fault
         ≡ LexFault.Memory _) }
 
     // The first refusal of the text and no other.
@@ -204,8 +221,8 @@ pub fn tokens(alloc: Global, text: &[u8]) -> Result<Vec<Token>, LexFault>
         IsErrOf result fault ⊎ IsErrOf result (LexFault.Memory _) }
 
     // The last token is `End`, and no other is.
-    ensures ended { IfOk result (λ all. IsEnded all.items) }
-    ensures few { IfOk result (λ all. length all.items ≤ length text.now + 1) }
+    ensures ended { IfOk result (λ all. IsEnded all) }
+    ensures few { IfOk result (λ all. length all ≤ length text.now + 1) }
 {
     cut(alloc, text)
 }

@@ -5,11 +5,13 @@
 #![tactic(auto)]
 
 mod lexer;
+mod packed;
 mod sign;
 mod token;
 mod word;
 
 pub use lexer::{MOST_DIGITS, limits_are, one_outcome, some_outcome, tokens};
+pub use packed::{Rest, TokenList};
 pub use sign::Sign;
-pub use token::{LexFault, Tok, Token};
+pub use token::{Kind, LexFault, Tok, Token};
 pub use word::Word;

@@ -4,7 +4,7 @@ ghost use Rattle.revs_lexer.specs.declared.token.LexFault.TheVariants as faults;
 use crate::{Sign, Word};
 use revc_base::{Memory, Place, Text, WantOfMemory};
 
-/// What a token is.
+/// What a token is, as contracts see it.
 #[derive(Drop)]
 pub enum Tok {
     /// A letter or `_`, then letters, digits and `_`, and no word: 1 to 64 bytes.
@@ -22,6 +22,17 @@ pub enum Tok {
 pub struct Token {
     pub tok: Tok,
     pub at: Place,
+}
+
+/// What a token is, beside the text that it stands in.
+#[derive(Clone, Copy)]
+pub enum Kind {
+    /// The name of so many bytes that begins at this byte of the text, counted from 0.
+    Name { length: u8, start: u32 },
+    Number(u32),
+    Word(Word),
+    Sign(Sign),
+    End,
 }
 
 /// Why a text has no tokens.

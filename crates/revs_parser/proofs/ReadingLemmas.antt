@@ -1,6 +1,6 @@
 -- What each way through a function reads, and where it halts.
 use Rattle.std.proofs.Common.{◌≡◌, ℕ, ◌+◌, ◌<◌, true, false, Some, None, List, [], ◌∷◌, ◌++◌, inl}
-use Rattle.std.proofs.Common.{inr, refl, sym, length, append_assoc, map, arith, append-nil}
+use Rattle.std.proofs.Common.{inr, refl, sym, length, append_assoc, map, arith, append-nil, Result, Ok, Err, MatchResult}
 use Rattle.std.proofs.lemmas.List.{map-append}
 use Rattle.revc_base.specs.declared.place.Place.{Place}
 use Rattle.revs_lexer.specs.declared.sign.Sign.{Sign}
@@ -8,6 +8,8 @@ use Rattle.revs_lexer.specs.declared.sign.Sign.TheVariants as signs
 use Rattle.revs_lexer.specs.declared.word.Word.TheVariants as words
 use Rattle.revs_lexer.specs.declared.token.Tok.TheVariants as toks
 use Rattle.revs_lexer.specs.declared.token.Token.{Token}
+use Rattle.revs_lexer.specs.declared.packed.Rest.{Rest}
+use Rattle.revs_lexer.specs.Rest.{left}
 use Rattle.revs_grammar.specs.declared.profile.Profile.{Profile}
 use Rattle.revs_grammar.specs.Forms.{any_name, word, sign, code, held, in_profile, common, Form, Val, IsOneOf, line, one, sub, same}
 use Rattle.revs_grammar.specs.Forms as g
@@ -34,6 +36,7 @@ use Rattle.revs_parser.specs.declared.front.Opener.{Opener}
 use Rattle.revs_parser.specs.declared.front.Opener.TheVariants as openers
 use Rattle.revs_parser.specs.inside.Reading.{Passes, Reads, Skips, ReadsForm, Halts, HaltsIn, Heads, NotFirst, base_first, name_first}
 use Rattle.revs_parser.specs.inside.Reading.{ReadsAnywhere, HaltsAnywhere, HaltsAtLevels}
+use Rattle.revs_parser.specs.inside.Forms.{NoPartBehind}
 use Rattle.revs_parser.specs.inside.Forms.{ReadsNames, names_rest, in_part, ReadsPart, in_function, ReadsFunction, in_application, ReadsAtoms}
 use Rattle.revs_parser.specs.inside.Forms.{in_register, ReadsRegister, ReadsBlock, ReadsItem, ReadsBinding}
 use Rattle.revs_parser.specs.inside.Forms.{ReadsFunctionNames, in_bound_names, closed_by, operated, ReadsOperator, NoOperator, in_append, ReadsAppend}
@@ -618,6 +621,14 @@ module _ {p : Profile} where
   atom_in_parts l {ts} r h =
       halts_there (form (in_profile p g.atom) l ∷ []) (form (in_profile p g.base) l ∷ form (in_profile p g.parts) 0 ∷ []) (m.as_atom p l ts)
       (halts_behind (form (in_profile p g.parts) 0 ∷ []) r h)
+
+-- A base with no part behind it is an atom.
+pub base_alone : (p : Profile) (l : ℕ) (ts : List Token) (read : Result (Term × Rest) Stop)
+    → MatchResult read (λ found. ReadsForm (in_profile p g.base) l (tree_of found.0) ts (left found.1)) (λ stop. HaltsIn (in_profile p g.base) l ts stop)
+    → NoPartBehind read
+    → MatchResult read (λ found. ReadsForm (in_profile p g.atom) l (tree_of found.0) ts (left found.1)) (λ stop. HaltsIn (in_profile p g.atom) l ts stop)
+base_alone p l ts (Ok found) r k = atom_reads l r (parts_done (parts_begun [] (left found.1) refl) k) refl
+base_alone p l ts (Err stop) h k = atom_in_base l h
 
 -- ---- bases
 

@@ -10,6 +10,10 @@ use Rattle.revs_lexer.specs.declared.word.Word.TheVariants as words
 use Rattle.revs_lexer.specs.declared.token.Tok.{Tok}
 use Rattle.revs_lexer.specs.declared.token.Tok.TheVariants as toks
 use Rattle.revs_lexer.specs.declared.token.Token.{Token}
+use Rattle.revs_lexer.specs.Kinds.{tok_of}
+use Rattle.revs_lexer.specs.Rest.{Begins, BeginsName, NoName}
+use Rattle.revs_lexer.specs.declared.token.Kind.{Kind}
+use Rattle.revs_lexer.specs.declared.token.Kind.TheVariants as kinds
 use Rattle.revs_grammar.specs.Forms.{Mark, any_name, two, other_number, word, sign, held, mark_code, code, common, Form, Val, Production, IsOneOf, name_of}
 use Rattle.revs_grammar.specs.Forms as g
 use Rattle.revs_grammar.specs.Productions.{productions}
@@ -22,10 +26,10 @@ use Rattle.revs_parser.specs.declared.stop.Stop.TheVariants as stops
 use Rattle.revs_parser.specs.declared.leaf.Fixed.{Fixed}
 use Rattle.revs_parser.specs.declared.leaf.Fixed.TheVariants as fixed
 use Rattle.revs_parser.specs.inside.Forms.{fixed_tok, fixed_mark}
-use Rattle.revs_parser.specs.inside.Reading.{Passes, Reads, Skips, ReadsForm, Halts, HaltsIn, Heads, NotFirst}
+use Rattle.revs_parser.specs.inside.Reading.{Passes, Reads, Skips, ReadsForm, Halts, HaltsIn, Heads, NotFirst, NoNumber, is_name, name_first}
 use Rattle.revs_parser.proofs.PassingLemmas.{passes_reads, line_passes, token_passes}
 use Rattle.revs_parser.proofs.PassingLemmas.{kept_passes, opening_passes, one_token, halts_there}
-use Rattle.revs_parser.proofs.StepLemmas.{no_sign, no_word, no_two, AtFirst, IsLeftOut, by_first, token_goes, kept_goes, opening_goes, opening_deepens}
+use Rattle.revs_parser.proofs.StepLemmas.{no_sign, no_word, no_two, not_name, AtFirst, IsLeftOut, by_first, token_goes, kept_goes, opening_goes, opening_deepens}
 
 -- ---- single tokens
 
@@ -102,6 +106,63 @@ pub bare_two : (n : ℕ) {at : Place} {ts rest : List Token} → n ≡ 2 → Hea
 bare_two n {at} {ts} {rest} same =
     subst (λ (k : ℕ). Heads (toks.Number k) at ts rest → Reads (token two ∷ []) tt ts rest) (sym same) at_two
 
+-- ---- what stands first, by its kind
+
+pub heads : {kind : Kind} {k : Tok} {at : Place} {ts rest : List Token} → Begins ts kind at rest → ((bytes : List ℕ) → tok_of kind bytes ≡ k)
+    → Heads k at ts rest
+heads {at = at} {ts} {rest} b same = record { cut = subst (λ (t : Tok). ts ≡ record { tok = t; at = at } ∷ rest) (same b.bytes) b.cut }
+
+pub not_first : {kind : Kind} {at : Place} {ts rest : List Token} (k : Tok) → Begins ts kind at rest → ((bytes : List ℕ) → ¬ (tok_of kind bytes ≡ k))
+    → NotFirst k ts
+not_first k b other = subst (NotFirst k) (sym b.cut) (other b.bytes)
+
+pub nothing_first : (k : Tok) (ts : List Token) → ts ≡ [] → NotFirst k ts
+nothing_first k ts none = subst (NotFirst k) (sym none) tt
+
+-- the name that stands first
+pub reads_name : {text : List ℕ} {at : Place} {ts rest : List Token} (bytes : List ℕ) → BeginsName ts bytes at rest → text ≡ bytes
+    → Reads (kept_token any_name ∷ []) (name_of text at, tt) ts rest
+reads_name bytes h same = a_name (record { cut = rw same h.cut })
+
+pub name_stands : {bytes : List ℕ} {at : Place} {ts rest : List Token} → BeginsName ts bytes at rest → name_first ts ≡ true
+name_stands h = ap name_first h.cut
+
+is_no_name : (t : Tok) → ((bytes : List ℕ) → ¬ (t ≡ toks.Name bytes)) → is_name t ≡ false
+is_no_name (toks.Name bytes) h = absurd (h bytes refl)
+is_no_name (toks.Number n) h = refl
+is_no_name (toks.Word w) h = refl
+is_no_name (toks.Sign s) h = refl
+is_no_name toks.End h = refl
+
+pub name_stops : (ts : List Token) → NoName ts → Halts (kept_token any_name ∷ []) ts (stops.Syntax (length ts))
+name_stops [] h = record { halt = λ ms. refl }
+name_stops (t ∷ ts) h = record { halt = λ ms. rw (not_name t.tok (is_no_name t.tok h)) (both (is_end t.tok) ∙ ap no_syntax (omega arith)) }
+
+-- the kind of what stands first decides whether it is a number
+no_number_kind : (kind : Kind) (bytes : List ℕ) → ((n : ℕ) → ¬ (kind ≡ kinds.Number n)) → (n : ℕ) → ¬ (tok_of kind bytes ≡ toks.Number n)
+no_number_kind (kinds.Name len start) bytes h n same = absurd cc
+no_number_kind (kinds.Number m) bytes h n same = h m refl
+no_number_kind (kinds.Word w) bytes h n same = absurd cc
+no_number_kind (kinds.Sign s) bytes h n same = absurd cc
+no_number_kind kinds.End bytes h n same = absurd cc
+
+pub begins_no_number : {kind : Kind} {at : Place} {ts rest : List Token} → Begins ts kind at rest → ((n : ℕ) → ¬ (kind ≡ kinds.Number n)) → NoNumber ts
+begins_no_number {kind} b other = subst NoNumber (sym b.cut) (no_number_kind kind b.bytes other)
+
+pub nothing_no_number : (ts : List Token) → ts ≡ [] → NoNumber ts
+nothing_no_number ts none = subst NoNumber (sym none) tt
+
+other_is_not_two : (n : ℕ) → ¬ (n ≡ 2) → ¬ (◌≡◌ {A = Tok} (toks.Number n) (toks.Number 2))
+other_is_not_two n other same = other cc
+
+pub other_two : {n : ℕ} {at : Place} {ts rest : List Token} → Heads (toks.Number n) at ts rest → ¬ (n ≡ 2)
+    → Halts (token two ∷ []) ts (stops.Syntax (length ts))
+other_two {n} {at} {ts} {rest} h other = two_stops ts (subst (NotFirst (toks.Number 2)) (sym h.cut) (other_is_not_two n other))
+
+pub no_number_two : (ts : List Token) → NoNumber ts → Halts (token two ∷ []) ts (stops.Syntax (length ts))
+no_number_two [] h = two_stops [] tt
+no_number_two (t ∷ ts) h = two_stops (t ∷ ts) (h 2)
+
 -- ---- forms by their lines
 
 -- A form is read where its line is.
@@ -158,3 +219,7 @@ is_no_number _ h = refl
 pub number_stops : (ts : List Token) → AtFirst (λ t. (n : ℕ) → ¬ (t ≡ toks.Number n)) ts → HaltsIn (common g.number) 0 ts (stops.Syntax (length ts))
 number_stops [] h = stops_at (common g.number) 0 refl [] tt
 number_stops (t ∷ ts) h = stops_at (common g.number) 0 refl (t ∷ ts) (is_no_number t.tok h)
+
+pub no_number_stops : (ts : List Token) → NoNumber ts → HaltsIn (common g.number) 0 ts (stops.Syntax (length ts))
+no_number_stops [] h = number_stops [] tt
+no_number_stops (t ∷ ts) h = number_stops (t ∷ ts) h

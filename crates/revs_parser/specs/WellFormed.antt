@@ -9,16 +9,16 @@ use Rattle.revs_terms.specs.Scopes.{scope_verdict, bound_as}
 use Rattle.revs_terms.specs.Trees.{Tree}
 use Rattle.revs_terms.specs.Views.{ProgramView}
 
--- The text is that of this program, whose names are not bound yet: it has at most 1,048,576 bytes, and its tokens are the program's
--- sentence within limits.
+-- The text is that of this program, whose names are not bound yet: it has at most 1,048,576 bytes,
+-- and its tokens are the program's sentence within limits.
 pub record IsProgramText (text : List ℕ) (p : ProgramView) : Type 0 where
   pub short : length text ≤ MOST_BYTES
   pub tokens : List Token
   pub cut : IsTokens text tokens
   pub sentence : IsProgramOf (closed text tokens) p.params p.body
 
--- The text is well formed, and that of this program: the names of its body are bound as the scope rule says, and the run of the
--- program ends on every input.
+-- The text is well formed, and that of this program: the names of its body are bound as the scope
+-- rule says, and the run of the program ends on every input.
 pub record IsWellFormed (text : List ℕ) (p : ProgramView) : Type 0 where
   pub unbound : Tree
   pub text_of : IsProgramText text (record p { body = unbound })
@@ -29,4 +29,5 @@ pub record IsWellFormed (text : List ℕ) (p : ProgramView) : Type 0 where
 abbrev pub OneProgramOfText : Type 0
 OneProgramOfText =
     (text : List ℕ) (p q : ProgramView)
-    → (IsProgramText text p → IsProgramText text q → p ≡ q) × (IsWellFormed text p → IsWellFormed text q → p ≡ q)
+    → (IsProgramText text p → IsProgramText text q → p ≡ q)
+    × (IsWellFormed text p → IsWellFormed text q → p ≡ q)

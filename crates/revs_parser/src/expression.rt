@@ -6,6 +6,7 @@ ghost use Rattle.std.specs.Prelude.{MatchResult};
 ghost use Rattle.revs_terms.specs.declared.limits.TheConstants.{MOST_LEVELS};
 ghost use Rattle.revs_grammar.specs.Forms as g;
 ghost use Rattle.revs_grammar.specs.Sentences.{few_levels};
+ghost use Rattle.revs_lexer.specs.Rest.{left};
 ghost use Rattle.revs_parser.specs.inside.Reading.{Skips, Reads, Halts, Gives};
 ghost use Rattle.revs_parser.specs.inside.Reading.{base_first, item_first, HaltsAnywhere};
 ghost use Rattle.revs_parser.specs.inside.Forms.{ReadsNames, ReadsPart, ReadsAtoms, ReadsFunction};
@@ -18,6 +19,7 @@ ghost use Rattle.revs_parser.specs.inside.Forms.{EndsPiece, HeadsFor, NoFor, Rea
 ghost use Rattle.revs_parser.specs.inside.Forms.{in_range, ReadsLoop, in_loop, GivesAt, in_parts};
 ghost use Rattle.revs_parser.specs.inside.Forms.{infix_sign, infix_term, ReadsChain, in_chain};
 ghost use Rattle.revs_parser.specs.inside.Forms.{ReadsOperand, in_operand, ReadsOpened, in_opened};
+ghost use Rattle.revs_parser.specs.inside.Forms.{NoPartBehind};
 ghost use Rattle.revs_parser.specs.declared.stop.Stop.{Stop};
 ghost use Rattle.revs_terms.specs.Trees.{tree_of, item_tree_of};
 
@@ -28,7 +30,7 @@ use crate::numbers::num;
 use crate::stop::{Stop, both, put, put_alone};
 use revc_base::Place;
 use revs_grammar::Profile;
-use revs_lexer::{Sign, Tok, Token, Word};
+use revs_lexer::{Kind, Rest, Sign, Word};
 use revs_terms::limits::MOST_LEVELS;
 use revs_terms::{Ends, Item, Name, Part, Term};
 use std::alloc::Global;
@@ -71,13 +73,9 @@ impl Infix {
 }
 
 // { name } behind the names so far, and the sign that ends them.
-fn names_up_to(
-    mut names: Vec<Name>,
-    tokens: &[Token],
-    end: Sign,
-) -> Result<(Vec<Name>, &[Token]), Stop>
+fn names_up_to(mut names: Vec<Name>, tokens: Rest, end: Sign) -> Result<(Vec<Name>, Rest), Stop>
     ensures { Gives (λ all. ReadsNames names.items all.items end)
-        (names_rest end) tokens.now result }
+        (names_rest end) tokens.entry result }
 {
     let mut rest = tokens;
     while begins_name(rest) {
@@ -87,8 +85,9 @@ fn names_up_to(
 }
 
 // The names of a function behind its `fun`, and its arrow.
-fn function_names(alloc: Global, tokens: &[Token]) -> Result<(Vec<Name>, &[Token]), Stop>
-    ensures { Gives (λ names. ReadsFunctionNames names.items) in_function_names tokens.now result }
+fn function_names(alloc: Global, tokens: Rest) -> Result<(Vec<Name>, Rest), Stop>
+    ensures { Gives (λ names. ReadsFunctionNames names.items) in_function_names
+        tokens.entry result }
 {
     let (first, rest) = name(tokens)?;
     let mut names = Vec::new(alloc);
@@ -97,10 +96,11 @@ fn function_names(alloc: Global, tokens: &[Token]) -> Result<(Vec<Name>, &[Token
 }
 
 // The name that a `let` binds, the names behind it, and the `=`.
-fn bound_names(alloc: Global, tokens: &[Token]) -> Result<(Name, Vec<Name>, &[Token]), Stop>
+fn bound_names(alloc: Global, tokens: Rest) -> Result<(Name, Vec<Name>, Rest), Stop>
     ensures { MatchResult result
-        (λ read. Reads in_bound_names (read.0, (read.1.items, tt)) tokens.now read.2.now)
-        (λ stop. Halts in_bound_names tokens.now stop) }
+        (λ read. Reads in_bound_names (read.0, (read.1.items, tt))
+        (left tokens.entry) (left read.2))
+        (λ stop. Halts in_bound_names (left tokens.entry) stop) }
 {
     let (bound, rest) = name(tokens)?;
     let (names, rest) = names_up_to(Vec::new(alloc), rest, Sign::Equal)?;
@@ -108,16 +108,16 @@ fn bound_names(alloc: Global, tokens: &[Token]) -> Result<(Name, Vec<Name>, &[To
 }
 
 // Whether the first token begins a base.
-fn begins_base(tokens: &[Token]) -> bool
-    ensures { result ≡ base_first tokens.now }
+fn begins_base(tokens: Rest) -> bool
+    ensures { result ≡ base_first (left tokens.entry) }
 {
-    let Some((first, _)) = tokens.split_first() else {
+    let Some((kind, _, _)) = tokens.split_first() else {
         return false;
     };
-    match &first.tok {
-        Tok::Name(_) => true,
-        Tok::Word(word) => matches!(word, Word::True | Word::False | Word::Reg),
-        Tok::Sign(sign) => matches!(sign, Sign::OpenRound | Sign::OpenCurly),
+    match kind {
+        Kind::Name { .. } => true,
+        Kind::Word(word) => matches!(word, Word::True | Word::False | Word::Reg),
+        Kind::Sign(sign) => matches!(sign, Sign::OpenRound | Sign::OpenCurly),
         _ => false,
     }
 }
@@ -129,9 +129,10 @@ enum Piece {
 }
 
 // What an expression is in a block: an item before a `;`, and the last one before the `}`.
-fn piece_of(term: Term, tokens: &[Token]) -> Result<(Piece, &[Token]), Stop>
-    ensures { MatchResult result (λ read. EndsPiece (tree_of term) read.0 tokens.now read.1.now)
-        (λ stop. HaltsAnywhere g.body_end tokens.now stop) }
+fn piece_of(term: Term, tokens: Rest) -> Result<(Piece, Rest), Stop>
+    ensures { MatchResult result
+        (λ read. EndsPiece (tree_of term) read.0 (left tokens.entry) (left read.1))
+        (λ stop. HaltsAnywhere g.body_end (left tokens.entry) stop) }
 {
     if let Some((_, behind)) = after(tokens, Sign::Semi) {
         return Ok((Piece::Item(Item::Do(term)), behind));
@@ -141,23 +142,24 @@ fn piece_of(term: Term, tokens: &[Token]) -> Result<(Piece, &[Token]), Stop>
 }
 
 // Whether the first token begins an item that is no expression.
-fn begins_item(profile: Profile, tokens: &[Token]) -> bool
-    ensures { result ≡ item_first profile tokens.now }
+fn begins_item(profile: Profile, tokens: Rest) -> bool
+    ensures { result ≡ item_first profile (left tokens.entry) }
 {
-    let Some((first, _)) = tokens.split_first() else {
+    let Some((kind, _, _)) = tokens.split_first() else {
         return false;
     };
-    match (&first.tok, profile) {
-        (Tok::Word(Word::Let), _) => true,
-        (Tok::Word(Word::For), Profile::Two) => true,
+    match (kind, profile) {
+        (Kind::Word(Word::Let), _) => true,
+        (Kind::Word(Word::For), Profile::Two) => true,
         _ => false,
     }
 }
 
 // The place of a `for` and the tokens behind it, where it stands first and the profile has it.
-fn after_for(profile: Profile, tokens: &[Token]) -> Option<(Place, &[Token])>
-    ensures found { IfSome result (λ found. HeadsFor profile found.0 tokens.now found.1.now) }
-    ensures none { IfNone result (NoFor profile tokens.now) }
+fn after_for(profile: Profile, tokens: Rest) -> Option<(Place, Rest)>
+    ensures found { IfSome result (λ found. HeadsFor profile found.0
+        (left tokens.entry) (left found.1)) }
+    ensures none { IfNone result (NoFor profile (left tokens.entry)) }
 {
     match profile {
         Profile::One => None,
@@ -165,10 +167,20 @@ fn after_for(profile: Profile, tokens: &[Token]) -> Option<(Place, &[Token])>
     }
 }
 
+// Whether a part stands behind what was read.
+fn is_part_behind(read: &Result<(Term, Rest), Stop>) -> bool
+    ensures { result ≡ false → NoPartBehind read.now }
+{
+    match read {
+        Ok((_, rest)) => after(*rest, Sign::Dot).is_some(),
+        Err(_) => false,
+    }
+}
+
 impl Reader {
     // A part behind its dot, which has this place.
-    fn part(self, tokens: &[Token], at: Place) -> Result<(Part, &[Token]), Stop>
-        ensures { Gives (ReadsPart self.profile at) (in_part self.profile) tokens.now result }
+    fn part(self, tokens: Rest, at: Place) -> Result<(Part, Rest), Stop>
+        ensures { Gives (ReadsPart self.profile at) (in_part self.profile) tokens.entry result }
     {
         let rest = expect(tokens, Sign::OpenSquare)?;
         let (i, rest) = num(self.alloc, self.profile, rest)?;
@@ -180,9 +192,9 @@ impl Reader {
     }
 
     // { part }
-    fn all_parts(self, tokens: &[Token]) -> Result<(Vec<Part>, &[Token]), Stop>
+    fn all_parts(self, tokens: Rest) -> Result<(Vec<Part>, Rest), Stop>
         ensures { Gives (λ parts. Skips (in_parts self.profile) (parts.items, tt))
-            (in_parts self.profile) tokens.now result }
+            (in_parts self.profile) tokens.entry result }
     {
         let mut parts = Vec::new(self.alloc);
         let mut rest = tokens;
@@ -193,11 +205,12 @@ impl Reader {
     }
 
     // The name of a `for` behind the word, its two numbers, and the words around them.
-    fn range(self, tokens: &[Token]) -> Result<(Name, Box<Ends>, &[Token]), Stop>
+    fn range(self, tokens: Rest) -> Result<(Name, Box<Ends>, Rest), Stop>
         ensures { MatchResult result
             (λ read. Reads (in_range self.profile)
-            (read.0, (read.1.value.first, (read.1.value.last, tt))) tokens.now read.2.now)
-            (λ stop. Halts (in_range self.profile) tokens.now stop) }
+            (read.0, (read.1.value.first, (read.1.value.last, tt)))
+            (left tokens.entry) (left read.2))
+            (λ stop. Halts (in_range self.profile) (left tokens.entry) stop) }
     {
         let (name, rest) = name(tokens)?;
         let rest = expect_word(rest, Word::In)?;
@@ -210,11 +223,11 @@ impl Reader {
     }
 
     // The level inside, where it is at most 100; the tokens begin with the one that opens it.
-    fn open(self, tokens: &[Token]) -> Result<u32, Stop>
+    fn open(self, tokens: Rest) -> Result<u32, Stop>
         requires { self.level ≤ MOST_LEVELS }
         ensures inner { IfOk result (λ inner. inner ≡ self.level + 1) }
         ensures within { IfOk result (λ inner. few_levels (self.level + 1) ≡ true) }
-        ensures stops { IfErr result (λ stop. stop ≡ Stop.Nesting (length tokens.now)) }
+        ensures stops { IfErr result (λ stop. stop ≡ Stop.Nesting (length (left tokens.entry))) }
         ensures deep { IfErr result (λ stop. few_levels (self.level + 1) ≡ false) }
     {
         if self.level < MOST_LEVELS {
@@ -226,9 +239,9 @@ impl Reader {
 
     /// The expression at this level that stands first, and the tokens behind it.
     #[cycle(read)]
-    pub fn expression(self, tokens: &[Token]) -> Result<(Term, &[Token]), Stop>
+    pub fn expression(self, tokens: Rest) -> Result<(Term, Rest), Stop>
         requires { self.level ≤ MOST_LEVELS }
-        ensures { GivesAt g.expression self tree_of tokens.now result }
+        ensures { GivesAt g.expression self tree_of tokens.entry result }
     {
         if let Some((at, behind)) = after_word(tokens, Word::Fun) {
             let level = self.open(tokens)?;
@@ -245,10 +258,10 @@ impl Reader {
 
     // The names and the body of a function behind its `fun`, at the level of the body.
     #[cycle(read)]
-    fn function(self, tokens: &[Token], at: Place) -> Result<(Term, &[Token]), Stop>
+    fn function(self, tokens: Rest, at: Place) -> Result<(Term, Rest), Stop>
         requires { self.level ≤ MOST_LEVELS }
         ensures { Gives (λ term. ReadsFunction self.profile self.level at (tree_of term))
-            (in_function self.profile self.level) tokens.now result }
+            (in_function self.profile self.level) tokens.entry result }
     {
         let (names, rest) = function_names(self.alloc, tokens)?;
         let (body, rest) = self.expression(rest)?;
@@ -258,10 +271,10 @@ impl Reader {
 
     // The operands of a chain, one after another.
     #[cycle(read)]
-    fn chained(self, tokens: &[Token], operator: Infix) -> Result<(Term, &[Token]), Stop>
+    fn chained(self, tokens: Rest, operator: Infix) -> Result<(Term, Rest), Stop>
         requires { self.level ≤ MOST_LEVELS }
         ensures { Gives (λ term. ReadsChain operator self.profile self.level (tree_of term))
-            (in_chain operator self.profile self.level) tokens.now result }
+            (in_chain operator self.profile self.level) tokens.entry result }
     {
         let (first, rest) = self.operand(tokens, operator)?;
         let Some((_, mut behind)) = after(rest, operator.sign()) else {
@@ -280,10 +293,10 @@ impl Reader {
 
     // An operand of a chain.
     #[cycle(read)]
-    fn operand(self, tokens: &[Token], operator: Infix) -> Result<(Term, &[Token]), Stop>
+    fn operand(self, tokens: Rest, operator: Infix) -> Result<(Term, Rest), Stop>
         requires { self.level ≤ MOST_LEVELS }
         ensures { Gives (λ term. ReadsOperand operator self.profile self.level (tree_of term))
-            (in_operand operator self.profile self.level) tokens.now result }
+            (in_operand operator self.profile self.level) tokens.entry result }
     {
         match operator {
             Infix::Xor => self.chained(tokens, Infix::And),
@@ -292,9 +305,9 @@ impl Reader {
     }
 
     #[cycle(read)]
-    fn application(self, tokens: &[Token]) -> Result<(Term, &[Token]), Stop>
+    fn application(self, tokens: Rest) -> Result<(Term, Rest), Stop>
         requires { self.level ≤ MOST_LEVELS }
-        ensures { GivesAt g.application self tree_of tokens.now result }
+        ensures { GivesAt g.application self tree_of tokens.entry result }
     {
         if let Some((at, behind)) = after_word(tokens, Word::Append) {
             return self.append(behind, at);
@@ -309,10 +322,10 @@ impl Reader {
 
     // The two operands behind an `append`.
     #[cycle(read)]
-    fn append(self, tokens: &[Token], at: Place) -> Result<(Term, &[Token]), Stop>
+    fn append(self, tokens: Rest, at: Place) -> Result<(Term, Rest), Stop>
         requires { self.level ≤ MOST_LEVELS }
         ensures { Gives (λ term. ReadsAppend self.profile self.level at (tree_of term))
-            (in_append self.profile self.level) tokens.now result }
+            (in_append self.profile self.level) tokens.entry result }
     {
         let (first, rest) = self.atom(tokens)?;
         let (first, (second, rest)) = both(first, self.atom(rest))?;
@@ -322,10 +335,10 @@ impl Reader {
 
     // An atom, and its arguments.
     #[cycle(read)]
-    fn atoms(self, tokens: &[Token]) -> Result<(Term, &[Token]), Stop>
+    fn atoms(self, tokens: Rest) -> Result<(Term, Rest), Stop>
         requires { self.level ≤ MOST_LEVELS }
         ensures { Gives (λ term. ReadsAtoms self.profile self.level (tree_of term))
-            (in_application self.profile self.level) tokens.now result }
+            (in_application self.profile self.level) tokens.entry result }
     {
         let (head, mut rest) = self.atom(tokens)?;
         if !begins_base(rest) {
@@ -342,20 +355,24 @@ impl Reader {
     }
 
     #[cycle(read)]
-    fn atom(self, tokens: &[Token]) -> Result<(Term, &[Token]), Stop>
+    fn atom(self, tokens: Rest) -> Result<(Term, Rest), Stop>
         requires { self.level ≤ MOST_LEVELS }
-        ensures { GivesAt g.atom self tree_of tokens.now result }
+        ensures { GivesAt g.atom self tree_of tokens.entry result }
     {
-        let (inner, rest) = self.base(tokens)?;
+        let read = self.base(tokens);
+        if !is_part_behind(&read) {
+            return read;
+        }
+        let (inner, rest) = read?;
         let (inner, (parts, rest)) = both(inner, self.all_parts(rest))?;
         let term = with_parts(self.alloc, inner, parts)?;
         Ok((term, rest))
     }
 
     #[cycle(read)]
-    fn base(self, tokens: &[Token]) -> Result<(Term, &[Token]), Stop>
+    fn base(self, tokens: Rest) -> Result<(Term, Rest), Stop>
         requires { self.level ≤ MOST_LEVELS }
-        ensures { GivesAt g.base self tree_of tokens.now result }
+        ensures { GivesAt g.base self tree_of tokens.entry result }
     {
         let Some((opener, at, behind)) = first_opener(tokens) else {
             return single_base(tokens);
@@ -366,10 +383,10 @@ impl Reader {
 
     // What stands behind the token that opens a level, which has this place, at the level inside.
     #[cycle(read)]
-    fn opened(self, tokens: &[Token], opener: Opener, at: Place) -> Result<(Term, &[Token]), Stop>
+    fn opened(self, tokens: Rest, opener: Opener, at: Place) -> Result<(Term, Rest), Stop>
         requires { self.level ≤ MOST_LEVELS }
         ensures { Gives (λ term. ReadsOpened opener self.profile self.level at (tree_of term))
-            (in_opened opener self.profile self.level) tokens.now result }
+            (in_opened opener self.profile self.level) tokens.entry result }
     {
         match opener {
             Opener::Register => self.register(tokens, at),
@@ -380,10 +397,10 @@ impl Reader {
 
     // An expression and the sign that ends it.
     #[cycle(read)]
-    fn closed(self, tokens: &[Token], end: Sign) -> Result<(Term, &[Token]), Stop>
+    fn closed(self, tokens: Rest, end: Sign) -> Result<(Term, Rest), Stop>
         requires { self.level ≤ MOST_LEVELS }
         ensures { Gives (λ term. Reads (closed_by self.profile end self.level) (tree_of term, tt))
-            (closed_by self.profile end self.level) tokens.now result }
+            (closed_by self.profile end self.level) tokens.entry result }
     {
         let (term, rest) = self.expression(tokens)?;
         both(term, expect(rest, end))
@@ -391,10 +408,10 @@ impl Reader {
 
     // The elements of a register behind its `reg`.
     #[cycle(read)]
-    fn register(self, tokens: &[Token], at: Place) -> Result<(Term, &[Token]), Stop>
+    fn register(self, tokens: Rest, at: Place) -> Result<(Term, Rest), Stop>
         requires { self.level ≤ MOST_LEVELS }
         ensures { Gives (λ term. ReadsRegister self.profile self.level at (tree_of term))
-            (in_register self.profile self.level) tokens.now result }
+            (in_register self.profile self.level) tokens.entry result }
     {
         let mut behind = expect(tokens, Sign::OpenSquare)?;
         let mut elements = Vec::new(self.alloc);
@@ -410,10 +427,10 @@ impl Reader {
 
     // The items and the last expression of a block behind its `{`.
     #[cycle(read)]
-    fn block(self, tokens: &[Token], at: Place) -> Result<(Term, &[Token]), Stop>
+    fn block(self, tokens: Rest, at: Place) -> Result<(Term, Rest), Stop>
         requires { self.level ≤ MOST_LEVELS }
         ensures { Gives (λ term. ReadsBlock self.profile self.level at (tree_of term))
-            (in_block self.profile self.level) tokens.now result }
+            (in_block self.profile self.level) tokens.entry result }
     {
         let mut items = Vec::new(self.alloc);
         let mut rest = tokens;
@@ -430,10 +447,10 @@ impl Reader {
     }
 
     #[cycle(read)]
-    fn item_or_last(self, tokens: &[Token]) -> Result<(Piece, &[Token]), Stop>
+    fn item_or_last(self, tokens: Rest) -> Result<(Piece, Rest), Stop>
         requires { self.level ≤ MOST_LEVELS }
         ensures { Gives (ReadsPiece self.profile self.level) (in_block self.profile self.level)
-            tokens.now result }
+            tokens.entry result }
     {
         if begins_item(self.profile, tokens) {
             let (item, rest) = self.item(tokens)?;
@@ -445,9 +462,9 @@ impl Reader {
 
     // An item that is no expression.
     #[cycle(read)]
-    fn item(self, tokens: &[Token]) -> Result<(Item, &[Token]), Stop>
+    fn item(self, tokens: Rest) -> Result<(Item, Rest), Stop>
         requires { self.level ≤ MOST_LEVELS }
-        ensures { GivesAt g.item self item_tree_of tokens.now result }
+        ensures { GivesAt g.item self item_tree_of tokens.entry result }
     {
         if let Some((_, behind)) = after_word(tokens, Word::Let) {
             return self.binding(behind);
@@ -460,10 +477,10 @@ impl Reader {
 
     // What a `let` binds, behind the word.
     #[cycle(read)]
-    fn binding(self, tokens: &[Token]) -> Result<(Item, &[Token]), Stop>
+    fn binding(self, tokens: Rest) -> Result<(Item, Rest), Stop>
         requires { self.level ≤ MOST_LEVELS }
         ensures { Gives (λ item. ReadsBinding self.profile self.level (item_tree_of item))
-            (in_binding self.profile self.level) tokens.now result }
+            (in_binding self.profile self.level) tokens.entry result }
     {
         let (name, names, rest) = bound_names(self.alloc, tokens)?;
         let (body, rest) = self.closed(rest, Sign::Semi)?;
@@ -473,10 +490,10 @@ impl Reader {
 
     // A `for` behind the word, which has this place.
     #[cycle(read)]
-    fn repetition(self, tokens: &[Token], at: Place) -> Result<(Item, &[Token]), Stop>
+    fn repetition(self, tokens: Rest, at: Place) -> Result<(Item, Rest), Stop>
         requires { self.level ≤ MOST_LEVELS }
         ensures { Gives (λ item. ReadsFor self.profile self.level at (item_tree_of item))
-            (in_for self.profile (self.level + 1)) tokens.now result }
+            (in_for self.profile (self.level + 1)) tokens.entry result }
     {
         let (name, ends, rest) = self.range(tokens)?;
         let Some((_, behind)) = after(rest, Sign::OpenCurly) else {
@@ -497,10 +514,10 @@ impl Reader {
 
     // The items of a `for` behind its `{`, and its end.
     #[cycle(read)]
-    fn loop_items(self, tokens: &[Token]) -> Result<(Vec<Item>, &[Token]), Stop>
+    fn loop_items(self, tokens: Rest) -> Result<(Vec<Item>, Rest), Stop>
         requires { self.level ≤ MOST_LEVELS }
         ensures { Gives (λ items. ReadsLoop self.profile self.level (map item_tree_of items.items))
-            (in_loop self.profile self.level) tokens.now result }
+            (in_loop self.profile self.level) tokens.entry result }
     {
         let mut items = Vec::new(self.alloc);
         let mut rest = tokens;
@@ -515,9 +532,9 @@ impl Reader {
 
     // An item of a `for`.
     #[cycle(read)]
-    fn loop_item(self, tokens: &[Token]) -> Result<(Item, &[Token]), Stop>
+    fn loop_item(self, tokens: Rest) -> Result<(Item, Rest), Stop>
         requires { self.level ≤ MOST_LEVELS }
-        ensures { GivesAt g.loop_item self item_tree_of tokens.now result }
+        ensures { GivesAt g.loop_item self item_tree_of tokens.entry result }
     {
         if begins_item(self.profile, tokens) {
             return self.item(tokens);

@@ -2,6 +2,7 @@
 
 ghost use Rattle.std.specs.Prelude.{IfOk, IfErr, IfSome, IfNone};
 ghost use Rattle.revs_grammar.specs.Forms as g;
+ghost use Rattle.revs_lexer.specs.Rest.{left};
 ghost use Rattle.revs_parser.specs.inside.Reading.{Heads, HaltsAtLevels};
 ghost use Rattle.revs_parser.specs.inside.Forms.{opening, NoOpener, ReadsOperator, NoOperator};
 
@@ -10,7 +11,7 @@ use crate::numbers::num;
 use crate::stop::Stop;
 use revc_base::Place;
 use revs_grammar::Profile;
-use revs_lexer::{Sign, Token, Word};
+use revs_lexer::{Rest, Sign, Word};
 use revs_terms::Num;
 use std::alloc::Global;
 
@@ -34,13 +35,13 @@ pub enum Opener {
 pub fn first_operator(
     alloc: Global,
     profile: Profile,
-    tokens: &[Token],
-) -> Result<Option<(Operator, &[Token])>, Stop>
+    tokens: Rest,
+) -> Result<Option<(Operator, Rest)>, Stop>
     ensures found { IfOk result (λ read. IfSome read
-        (λ found. ReadsOperator profile found.0 tokens.now found.1.now)) }
-    ensures none { IfOk result (λ read. IfNone read (NoOperator tokens.now)) }
+        (λ found. ReadsOperator profile found.0 (left tokens.entry) (left found.1))) }
+    ensures none { IfOk result (λ read. IfNone read (NoOperator (left tokens.entry))) }
     ensures halts { IfErr result
-        (λ stop. HaltsAtLevels (g.in_profile profile g.application) tokens.now stop) }
+        (λ stop. HaltsAtLevels (g.in_profile profile g.application) (left tokens.entry) stop) }
 {
     if let Some((at, behind)) = after_word(tokens, Word::Clean) {
         return Ok(Some((Operator::Clean(at), behind)));
@@ -56,10 +57,10 @@ pub fn first_operator(
 }
 
 /// The token that opens a level in a base, its place, and the tokens behind it.
-pub fn first_opener(tokens: &[Token]) -> Option<(Opener, Place, &[Token])>
+pub fn first_opener(tokens: Rest) -> Option<(Opener, Place, Rest)>
     ensures found { IfSome result (λ found. Heads (opening found.0) found.1
-        tokens.now found.2.now) }
-    ensures none { IfNone result (NoOpener tokens.now) }
+        (left tokens.entry) (left found.2)) }
+    ensures none { IfNone result (NoOpener (left tokens.entry)) }
 {
     if let Some((at, behind)) = after_word(tokens, Word::Reg) {
         return Some((Opener::Register, at, behind));

@@ -6,6 +6,7 @@ ghost use Rattle.revs_grammar.specs.Productions.{digits_of};
 ghost use Rattle.revs_grammar.specs.Sentences.{form};
 ghost use Rattle.revs_grammar.specs.declared.profile.Profile.TheVariants as profiles;
 ghost use Rattle.revs_lexer.specs.declared.token.Tok.TheVariants as toks;
+ghost use Rattle.revs_lexer.specs.Rest.{left};
 ghost use Rattle.revs_terms.specs.Numbers.{plus};
 ghost use Rattle.revs_parser.specs.inside.Reading.{Heads, Skips, Gives, GivesForm, Makes};
 ghost use Rattle.revs_parser.specs.inside.Forms.{step_sign, NoStep};
@@ -14,13 +15,13 @@ use crate::leaf::{after, begins_name, name, number};
 use crate::stop::Stop;
 use revc_base::Place;
 use revs_grammar::Profile;
-use revs_lexer::{Sign, Token};
+use revs_lexer::{Rest, Sign};
 use revs_terms::{Num, Step, Steps, Sum, Unit};
 use std::alloc::Global;
 
 // unit = number | name
-fn unit(tokens: &[Token]) -> Result<(Unit, &[Token]), Stop>
-    ensures { GivesForm (g.common g.unit) 0 (λ unit. unit) tokens.now result }
+fn unit(tokens: Rest) -> Result<(Unit, Rest), Stop>
+    ensures { GivesForm (g.common g.unit) 0 (λ unit. unit) tokens.entry result }
 {
     if begins_name(tokens) {
         let (used, rest) = name(tokens)?;
@@ -32,10 +33,10 @@ fn unit(tokens: &[Token]) -> Result<(Unit, &[Token]), Stop>
 
 // Whether the sign in front of a unit takes it away, where such a sign stands first, its place, and
 // the tokens behind it.
-fn first_sign(tokens: &[Token]) -> Option<(bool, Place, &[Token])>
+fn first_sign(tokens: Rest) -> Option<(bool, Place, Rest)>
     ensures found { IfSome result (λ found. Heads (toks.Sign (step_sign found.0)) found.1
-        tokens.now found.2.now) }
-    ensures none { IfNone result (NoStep tokens.now) }
+        (left tokens.entry) (left found.2)) }
+    ensures none { IfNone result (NoStep (left tokens.entry)) }
 {
     if let Some((at, behind)) = after(tokens, Sign::Plus) {
         return Some((false, at, behind));
@@ -45,9 +46,9 @@ fn first_sign(tokens: &[Token]) -> Option<(bool, Place, &[Token])>
 }
 
 // { + unit | - unit }
-fn more_steps(alloc: Global, tokens: &[Token]) -> Result<(Vec<Step>, &[Token]), Stop>
+fn more_steps(alloc: Global, tokens: Rest) -> Result<(Vec<Step>, Rest), Stop>
     ensures { Gives (λ steps. Skips (form (g.common g.units) 0 ∷ []) (steps.items, tt))
-        (form (g.common g.units) 0 ∷ []) tokens.now result }
+        (form (g.common g.units) 0 ∷ []) tokens.entry result }
 {
     let mut steps = Vec::new(alloc);
     let mut rest = tokens;
@@ -84,16 +85,16 @@ fn of_digits(value: u32, at: Place) -> Num
 }
 
 // A number token alone.
-fn digits(tokens: &[Token]) -> Result<(Num, &[Token]), Stop>
-    ensures { GivesForm (g.in_profile profiles.One g.num) 0 (λ number. number) tokens.now result }
+fn digits(tokens: Rest) -> Result<(Num, Rest), Stop>
+    ensures { GivesForm (g.in_profile profiles.One g.num) 0 (λ number. number) tokens.entry result }
 {
     let (value, at, rest) = number(tokens)?;
     Ok((of_digits(value, at), rest))
 }
 
 // unit { + unit | - unit }
-fn units(alloc: Global, tokens: &[Token]) -> Result<(Num, &[Token]), Stop>
-    ensures { GivesForm (g.in_profile profiles.Two g.num) 0 (λ number. number) tokens.now result }
+fn units(alloc: Global, tokens: Rest) -> Result<(Num, Rest), Stop>
+    ensures { GivesForm (g.in_profile profiles.Two g.num) 0 (λ number. number) tokens.entry result }
 {
     let (first, rest) = unit(tokens)?;
     let (more, rest) = more_steps(alloc, rest)?;
@@ -102,8 +103,8 @@ fn units(alloc: Global, tokens: &[Token]) -> Result<(Num, &[Token]), Stop>
 }
 
 /// The number that stands first, as the profile has numbers, and the tokens behind it.
-pub fn num(alloc: Global, profile: Profile, tokens: &[Token]) -> Result<(Num, &[Token]), Stop>
-    ensures { GivesForm (g.in_profile profile g.num) 0 (λ number. number) tokens.now result }
+pub fn num(alloc: Global, profile: Profile, tokens: Rest) -> Result<(Num, Rest), Stop>
+    ensures { GivesForm (g.in_profile profile g.num) 0 (λ number. number) tokens.entry result }
 {
     match profile {
         Profile::One => digits(tokens),

@@ -5,6 +5,7 @@ ghost use Rattle.std.specs.Prelude.{IfErr, IfSome, IfNone, IsErrOf, MatchResult}
 ghost use Rattle.std.specs.Result.{ForOk, ForErr};
 ghost use Rattle.revc_base.specs.declared.place.Place.{Place};
 ghost use Rattle.revs_lexer.specs.Tokens.{IsEnded};
+ghost use Rattle.revs_lexer.specs.Rest.{left};
 ghost use Rattle.revs_grammar.specs.Forms as g;
 ghost use Rattle.revs_grammar.specs.Answers.{HasSentence, IsProgramOf, PassesAt, IsInputs};
 ghost use Rattle.revs_grammar.specs.Faults.{IsSyntax, IsNesting, Verdict, IsVerdict};
@@ -24,7 +25,7 @@ use crate::leaf::{after, after_word, expect, expect_word, name, number, number_t
 use crate::stop::{Stop, put};
 use revc_base::{Memory, Place};
 use revs_grammar::Profile;
-use revs_lexer::{Sign, Tok, Token, Word};
+use revs_lexer::{Kind, Rest, Sign, TokenList, Word};
 use revs_tape::limits::MOST_INPUTS;
 use revs_terms::{Param, Program, Term};
 use std::alloc::Global;
@@ -43,9 +44,10 @@ pub enum ParseFault {
 }
 
 // The width of a parameter and its `)`.
-fn width(tokens: &[Token]) -> Result<(Option<u32>, &[Token]), Stop>
-    ensures ok { IfOk result (λ read. ReadsForm (g.common g.width) 0 read.0 tokens.now read.1.now) }
-    ensures halts { IfErr result (λ stop. HaltsIn (g.common g.width) 0 tokens.now stop) }
+fn width(tokens: Rest) -> Result<(Option<u32>, Rest), Stop>
+    ensures ok { IfOk result (λ read. ReadsForm (g.common g.width) 0 read.0
+        (left tokens.entry) (left read.1)) }
+    ensures halts { IfErr result (λ stop. HaltsIn (g.common g.width) 0 (left tokens.entry) stop) }
     ensures exact { ¬ IsErrOf result (Stop.Memory _) }
 {
     let Some((_, behind)) = after(tokens, Sign::OpenSquare) else {
@@ -58,8 +60,8 @@ fn width(tokens: &[Token]) -> Result<(Option<u32>, &[Token]), Stop>
     Ok((Some(bits), rest))
 }
 
-fn parameter(tokens: &[Token]) -> Result<(Param, &[Token]), Stop>
-    ensures { GivesForm (g.common g.parameter) 0 (λ param. param) tokens.now result }
+fn parameter(tokens: Rest) -> Result<(Param, Rest), Stop>
+    ensures { GivesForm (g.common g.parameter) 0 (λ param. param) tokens.entry result }
 {
     let Some((_, behind)) = after(tokens, Sign::OpenRound) else {
         return Err(Stop::Syntax(tokens.len()));
@@ -72,9 +74,9 @@ fn parameter(tokens: &[Token]) -> Result<(Param, &[Token]), Stop>
 }
 
 // { param } behind the parameters so far.
-fn parameters(mut params: Vec<Param>, tokens: &[Token]) -> Result<(Vec<Param>, &[Token]), Stop>
+fn parameters(mut params: Vec<Param>, tokens: Rest) -> Result<(Vec<Param>, Rest), Stop>
     ensures { Gives (λ all. ReadsParameters params.items all.items)
-        (form (g.common g.parameters) 0 ∷ []) tokens.now result }
+        (form (g.common g.parameters) 0 ∷ []) tokens.entry result }
 {
     let mut rest = tokens;
     while let Some((_, _)) = after(rest, Sign::OpenRound) {
@@ -84,9 +86,9 @@ fn parameters(mut params: Vec<Param>, tokens: &[Token]) -> Result<(Vec<Param>, &
 }
 
 // The profile of a program, and the tokens behind its `main`.
-fn profile(tokens: &[Token]) -> Result<(Profile, &[Token]), Stop>
-    ensures ok { IfOk result (λ read. ReadsProfile read.0 tokens.now read.1.now) }
-    ensures halts { IfErr result (λ stop. HaltsIn (g.common g.program) 0 tokens.now stop) }
+fn profile(tokens: Rest) -> Result<(Profile, Rest), Stop>
+    ensures ok { IfOk result (λ read. ReadsProfile read.0 (left tokens.entry) (left read.1)) }
+    ensures halts { IfErr result (λ stop. HaltsIn (g.common g.program) 0 (left tokens.entry) stop) }
     ensures exact { ¬ IsErrOf result (Stop.Memory _) }
 {
     if let Some((_, behind)) = after_word(tokens, Word::Main) {
@@ -99,10 +101,10 @@ fn profile(tokens: &[Token]) -> Result<(Profile, &[Token]), Stop>
 }
 
 // A whole sentence.
-fn sentence(alloc: Global, tokens: &[Token]) -> Result<(Vec<Param>, Term, &[Token]), Stop>
+fn sentence(alloc: Global, tokens: Rest) -> Result<(Vec<Param>, Term, Rest), Stop>
     ensures { MatchResult result
-        (λ read. ReadsProgram read.0.items (tree_of read.1) tokens.now read.2.now)
-        (λ stop. HaltsIn (g.common g.program) 0 tokens.now stop) }
+        (λ read. ReadsProgram read.0.items (tree_of read.1) (left tokens.entry) (left read.2))
+        (λ stop. HaltsIn (g.common g.program) 0 (left tokens.entry) stop) }
 {
     let (profile, behind) = profile(tokens)?;
     let (first, rest) = parameter(behind)?;
@@ -120,22 +122,22 @@ fn sentence(alloc: Global, tokens: &[Token]) -> Result<(Vec<Param>, Term, &[Toke
 }
 
 // Whether the end stands first.
-fn ends(tokens: &[Token]) -> bool
-    ensures { result ≡ end_first tokens.now }
+fn ends(tokens: Rest) -> bool
+    ensures { result ≡ end_first (left tokens.entry) }
 {
     match tokens.split_first() {
-        Some((first, _)) => matches!(first.tok, Tok::End),
+        Some((kind, _, _)) => matches!(kind, Kind::End),
         None => false,
     }
 }
 
 // The parameters and the body of the sentence before the end.
-fn whole(alloc: Global, tokens: &[Token]) -> Result<(Vec<Param>, Term), Stop>
+fn whole(alloc: Global, tokens: &TokenList) -> Result<(Vec<Param>, Term), Stop>
     requires { IsEnded tokens.now }
     ensures ok { IfOk result (λ read. HasSentence tokens.now read.0.items (tree_of read.1)) }
     ensures refused { IfErr result (λ stop. IsRefusal tokens.now stop) }
 {
-    let (params, body, rest) = sentence(alloc, tokens)?;
+    let (params, body, rest) = sentence(alloc, tokens.all())?;
     if !ends(rest) {
         return Err(Stop::Syntax(rest.len()));
     }
@@ -170,7 +172,7 @@ fn passed_at(params: &[Param]) -> Option<Place>
 }
 
 // The fault for this halt.
-fn refusal(tokens: &[Token], stop: Stop) -> ParseFault
+fn refusal(tokens: &TokenList, stop: Stop) -> ParseFault
     requires few { length tokens.now < 2 ^ 32 }
     requires refused { IsRefusal tokens.now stop }
     ensures refused { IsRefused tokens.now result }
@@ -181,16 +183,16 @@ fn refusal(tokens: &[Token], stop: Stop) -> ParseFault
             let token = tokens.len() - left;
             ParseFault::Syntax {
                 token: token as u32,
-                at: tokens[token].at,
+                at: tokens.place(token),
             }
         }
-        Stop::Nesting(left) => ParseFault::Nesting(tokens[tokens.len() - left].at),
+        Stop::Nesting(left) => ParseFault::Nesting(tokens.place(tokens.len() - left)),
         Stop::Memory(memory) => ParseFault::Memory(memory),
     }
 }
 
 // The answer for what was read: want of memory is answered where it was met, and nowhere else.
-fn answer(tokens: &[Token], read: Result<(Vec<Param>, Term), Stop>) -> Result<Program, ParseFault>
+fn answer(tokens: &TokenList, read: Result<(Vec<Param>, Term), Stop>) -> Result<Program, ParseFault>
     requires few { length tokens.now < 2 ^ 32 }
     requires sentence { ForOk read (λ read. HasSentence tokens.now read.0.items (tree_of read.1)) }
     requires refused { ForErr read (λ stop. IsRefusal tokens.now stop) }
@@ -219,7 +221,7 @@ fn answer(tokens: &[Token], read: Result<(Vec<Param>, Term), Stop>) -> Result<Pr
 /// (`Nesting`), or, in a whole sentence, the first parameter whose width is 0 or with which there
 /// are more than 1,024 inputs (`Inputs`). Each list of tokens has one of these answers, and beside
 /// it only `Memory`.
-pub fn parse(alloc: Global, tokens: &[Token]) -> Result<Program, ParseFault>
+pub fn parse(alloc: Global, tokens: &TokenList) -> Result<Program, ParseFault>
     requires ended { IsEnded tokens.now }
     requires few { length tokens.now < 2 ^ 32 }
     ensures program { IfOk result (λ p. IsProgramOf tokens.now p.params.items (tree_of p.body)) }

@@ -1,6 +1,5 @@
 -- What the functions read that are no form of the grammar by themselves.
-use Rattle.std.specs.Prelude.{◌≡◌, ℕ, ◌+◌, ◌<◌, Bool, true, false, Option, Some, None, List, [], ◌∷◌, ◌++◌, length, take, drop, Result}
-use Rattle.std.specs.Borrow.{Bor}
+use Rattle.std.specs.Prelude.{◌≡◌, ℕ, ◌+◌, ◌<◌, Bool, true, false, Option, Some, None, List, [], ◌∷◌, ◌++◌, length, take, drop, Result, MatchResult}
 use Rattle.revc_base.specs.declared.place.Place.{Place}
 use Rattle.revs_lexer.specs.declared.sign.Sign.{Sign}
 use Rattle.revs_lexer.specs.declared.sign.Sign.TheVariants as signs
@@ -8,6 +7,8 @@ use Rattle.revs_lexer.specs.declared.word.Word.TheVariants as words
 use Rattle.revs_lexer.specs.declared.token.Tok.{Tok}
 use Rattle.revs_lexer.specs.declared.token.Tok.TheVariants as toks
 use Rattle.revs_lexer.specs.declared.token.Token.{Token}
+use Rattle.revs_lexer.specs.declared.packed.Rest.{Rest}
+use Rattle.revs_lexer.specs.Rest.{left}
 use Rattle.revs_grammar.specs.declared.profile.Profile.{Profile}
 use Rattle.revs_grammar.specs.declared.profile.Profile.TheVariants as profiles
 use Rattle.revs_grammar.specs.Forms.{Mark, sign, word, BodyTree, Kind, KindVal, in_profile, common}
@@ -62,10 +63,10 @@ behind_first level [] = []
 behind_first level (p ∷ ps) = at_level level ps
 
 -- A form of this kind is read as the reader goes by, or the machine halts there.
-abbrev pub GivesAt : {T : Type 0} (k : Kind) (reader : Reader) → (T → KindVal k) → List Token
-    → Result (T × Bor (List Token)) Stop → Type 0
-GivesAt k reader seen ts result =
-    GivesForm (in_profile reader.profile k) reader.level seen ts result
+abbrev pub GivesAt : {T : Type 0} (k : Kind) (reader : Reader) → (T → KindVal k) → Rest
+    → Result (T × Rest) Stop → Type 0
+GivesAt k reader seen tokens result =
+    GivesForm (in_profile reader.profile k) reader.level seen tokens result
 
 -- what is expected of the names behind a first one, and of the sign that ends them
 abbrev pub names_rest : Sign → Stack
@@ -92,6 +93,11 @@ pub record ReadsPart (p : Profile) (at : Place) (part : Part) (ts rest : List To
   pub is : part ≡ index_of at first last
   pub reads : Reads (in_part p) (first, (last, tt)) ts rest
 
+-- No part stands behind what was read.
+abbrev pub NoPartBehind : {T : Type 0} → Result (T × Rest) Stop → Type 0
+NoPartBehind read =
+    MatchResult read (λ found. NotFirst (toks.Sign signs.Dot) (left found.1)) (λ stop. Unit {0})
+
 -- what is expected of a function behind its `fun`
 abbrev pub in_function : Profile → ℕ → Stack
 in_function p level = behind_first level (function_line p).pieces
@@ -108,7 +114,8 @@ pub record ReadsFunctionNames (all : List Name) (ts rest : List Token) : Type 0 
   pub reads : Reads in_function_names (first, (more, tt)) ts rest
 
 -- The names and the body of a function were read behind `fun`, which has this place.
-pub record ReadsFunction (p : Profile) (level : ℕ) (at : Place) (term : Tree) (ts rest : List Token) : Type 0 where
+pub record ReadsFunction (p : Profile) (level : ℕ) (at : Place) (term : Tree)
+    (ts rest : List Token) : Type 0 where
   pub first : Name
   pub more : List Name
   pub inner : Tree
@@ -137,7 +144,8 @@ abbrev pub in_append : Profile → ℕ → Stack
 in_append p level = behind_first level (append_line p).pieces
 
 -- The operands of an `append` were read behind the word, which has this place.
-pub record ReadsAppend (p : Profile) (level : ℕ) (at : Place) (term : Tree) (ts rest : List Token) : Type 0 where
+pub record ReadsAppend (p : Profile) (level : ℕ) (at : Place) (term : Tree)
+    (ts rest : List Token) : Type 0 where
   pub first : Tree
   pub second : Tree
   pub is : term ≡ append first second at
@@ -219,7 +227,8 @@ abbrev pub in_register : Profile → ℕ → Stack
 in_register p level = behind_first level (register_line p).pieces
 
 -- The elements of a register were read behind `reg`, which has this place.
-pub record ReadsRegister (p : Profile) (level : ℕ) (at : Place) (term : Tree) (ts rest : List Token) : Type 0 where
+pub record ReadsRegister (p : Profile) (level : ℕ) (at : Place) (term : Tree)
+    (ts rest : List Token) : Type 0 where
   pub first : Tree
   pub more : List Tree
   pub is : term ≡ reg (trees (first ∷ more)) at
@@ -230,7 +239,8 @@ abbrev pub in_block : Profile → ℕ → Stack
 in_block p level = form (in_profile p g.body) level ∷ []
 
 -- The items and the last expression of a block were read behind its `{`, which has this place.
-pub record ReadsBlock (p : Profile) (level : ℕ) (at : Place) (term : Tree) (ts rest : List Token) : Type 0 where
+pub record ReadsBlock (p : Profile) (level : ℕ) (at : Place) (term : Tree)
+    (ts rest : List Token) : Type 0 where
   pub inside : BodyTree
   pub is : term ≡ block (item_trees inside.items) inside.last at
   pub reads : ReadsForm (in_profile p g.body) level inside ts rest
@@ -253,8 +263,10 @@ pub record ReadsOpened (opener : Opener) (p : Profile) (level : ℕ) (at : Place
   pub reads : IsOpened opener p level at term ts rest
 
 -- An item of a block was read: it stands in front of the items behind it.
-pub record ReadsItem (p : Profile) (level : ℕ) (item : ItemTree) (ts rest : List Token) : Type 0 where
-  pub passes : Passes (form (in_profile p g.body) level ∷ []) (form (in_profile p g.body) level ∷ [])
+pub record ReadsItem (p : Profile) (level : ℕ) (item : ItemTree)
+    (ts rest : List Token) : Type 0 where
+  pub passes : Passes (form (in_profile p g.body) level ∷ [])
+      (form (in_profile p g.body) level ∷ [])
       (λ inside. (in_front item inside.0, tt)) ts rest
   pub shorter : length rest < length ts
 
@@ -299,7 +311,8 @@ abbrev pub in_range : Profile → Stack
 in_range p = take 6 (in_for p 0)
 
 -- A `for` was read behind the word, which has this place.
-pub record ReadsFor (p : Profile) (level : ℕ) (at : Place) (item : ItemTree) (ts rest : List Token) : Type 0 where
+pub record ReadsFor (p : Profile) (level : ℕ) (at : Place) (item : ItemTree)
+    (ts rest : List Token) : Type 0 where
   pub name : Name
   pub low : List Step
   pub high : List Step
@@ -307,14 +320,16 @@ pub record ReadsFor (p : Profile) (level : ℕ) (at : Place) (item : ItemTree) (
   pub first : ItemTree
   pub more : List ItemTree
   pub is : item ≡ run (loop name low high (item_trees (first ∷ more)) at)
-  pub reads : Reads (in_for p (level + 1)) (name, (low, (high, (curly, (first, (more, tt)))))) ts rest
+  pub reads : Reads (in_for p (level + 1))
+      (name, (low, (high, (curly, (first, (more, tt)))))) ts rest
 
 -- what is expected of a `for` behind its `{`
 abbrev pub in_loop : Profile → ℕ → Stack
 in_loop p inner = drop 7 (in_for p inner)
 
 -- The items of a `for` were read behind its `{`, and what ends it.
-pub record ReadsLoop (p : Profile) (inner : ℕ) (items : List ItemTree) (ts rest : List Token) : Type 0 where
+pub record ReadsLoop (p : Profile) (inner : ℕ) (items : List ItemTree)
+    (ts rest : List Token) : Type 0 where
   pub first : ItemTree
   pub more : List ItemTree
   pub all_items : items ≡ first ∷ more
@@ -339,7 +354,8 @@ abbrev pub in_bound_names : Stack
 in_bound_names = take 3 (in_binding profiles.One 0)
 
 -- What a `let` binds was read behind the word.
-pub record ReadsBinding (p : Profile) (level : ℕ) (item : ItemTree) (ts rest : List Token) : Type 0 where
+pub record ReadsBinding (p : Profile) (level : ℕ) (item : ItemTree)
+    (ts rest : List Token) : Type 0 where
   pub bound : Name
   pub more : List Name
   pub inner : Tree
@@ -360,11 +376,13 @@ after_main p =
 
 -- The words in front of a program of this profile were read, up to `main`.
 pub record ReadsProfile (p : Profile) (ts rest : List Token) : Type 0 where
-  pub passes : Passes (form (common g.program) 0 ∷ []) (after_main p) (λ us. (program_of us.0 us.1.0 us.1.1.0, tt)) ts rest
+  pub passes : Passes (form (common g.program) 0 ∷ []) (after_main p)
+      (λ us. (program_of us.0 us.1.0 us.1.1.0, tt)) ts rest
 
 -- A whole sentence was read.
 abbrev pub ReadsProgram : List Param → Tree → List Token → List Token → Type 0
-ReadsProgram params term ts rest = ReadsForm (common g.program) 0 (record { params = params; body = term }) ts rest
+ReadsProgram params term ts rest =
+    ReadsForm (common g.program) 0 (record { params = params; body = term }) ts rest
 
 -- So many tokens are left, the first of which has a number and a place.
 pub record Left (tokens : List Token) (left : ℕ) (Why : ℕ → Place → Type 0) : Type 0 where

@@ -1,12 +1,14 @@
--- What reading forms off the front of a list of tokens does to the machine, and what the tokens stand for.
+-- What reading forms off the front of a list of tokens does to the machine, and what the tokens
+-- stand for.
 use Rattle.std.specs.Prelude.{◌≡◌, ◌<◌, ℕ, Bool, true, false, List, [], ◌∷◌, ◌++◌, length, Result, Ok, Err, ◌⊎◌, MatchResult}
-use Rattle.std.specs.Borrow.{Bor}
 use Rattle.revc_base.specs.declared.place.Place.{Place}
 use Rattle.revs_lexer.specs.declared.sign.Sign.TheVariants as signs
 use Rattle.revs_lexer.specs.declared.word.Word.TheVariants as words
 use Rattle.revs_lexer.specs.declared.token.Tok.{Tok}
 use Rattle.revs_lexer.specs.declared.token.Tok.TheVariants as toks
 use Rattle.revs_lexer.specs.declared.token.Token.{Token}
+use Rattle.revs_lexer.specs.declared.packed.Rest.{Rest}
+use Rattle.revs_lexer.specs.Rest.{left}
 use Rattle.revs_grammar.specs.declared.profile.Profile.{Profile}
 use Rattle.revs_grammar.specs.declared.profile.Profile.TheVariants as profiles
 use Rattle.revs_grammar.specs.Forms.{Kind, KindVal, Form, Val, in_profile}
@@ -23,8 +25,9 @@ put (kept_token m ∷ ss) ns vs ws = (vs.0, put ss ns vs.1 ws)
 put (opening_token m l ∷ ss) ns vs ws = (vs.0, put ss ns vs.1 ws)
 put (form f l ∷ ss) ns vs ws = (vs.0, put ss ns vs.1 ws)
 
--- The machine that expects the first symbols in front of anything comes over the tokens to the second, and the tokens in front of
--- the rest turn what the second stand for into what the first do.
+-- The machine that expects the first symbols in front of anything comes over the tokens to the
+-- second, and the tokens in front of the rest turn what the second stand for into what the first
+-- do.
 pub record Passes (es fs : Stack) (turn : Vals fs → Vals es) (ts rest : List Token) : Type 0 where
   pub goes_on : (ms : Stack) → outcome ts (es ++ ms) ≡ outcome rest (fs ++ ms)
   pub front : List Token
@@ -33,7 +36,8 @@ pub record Passes (es fs : Stack) (turn : Vals fs → Vals es) (ts rest : List T
   pub stands_for : (ms : Stack) (us : Vals fs) (ws : Vals ms) → value (leads ms) (put fs ms us ws)
       ≡ put es ms (turn us) ws
 
--- The machine that expects these symbols comes over them, and the tokens in front of the rest, one at least, stand for these values.
+-- The machine that expects these symbols comes over them, and the tokens in front of the rest, one
+-- at least, stand for these values.
 pub record Reads (es : Stack) (vs : Vals es) (ts rest : List Token) : Type 0 where
   pub passes : Passes es [] (λ _. vs) ts rest
   pub shorter : length rest < length ts
@@ -59,16 +63,18 @@ pub record Halts (es : Stack) (ts : List Token) (stop : Stop) : Type 0 where
 abbrev pub HaltsIn : Form → ℕ → List Token → Stop → Type 0
 HaltsIn f l ts stop = Halts (form f l ∷ []) ts stop
 
--- What stands first is read as this relation says, or the machine that expects these symbols halts there.
-abbrev pub Gives : {T : Type 0} → (T → List Token → List Token → Type 0) → Stack → List Token
-    → Result (T × Bor (List Token)) Stop → Type 0
-Gives reads es ts result =
-    MatchResult result (λ read. reads read.0 ts read.1.now) (λ stop. Halts es ts stop)
+-- What stands first is read as this relation says, or the machine that expects these symbols halts
+-- there.
+abbrev pub Gives : {T : Type 0} → (T → List Token → List Token → Type 0) → Stack → Rest
+    → Result (T × Rest) Stop → Type 0
+Gives reads es tokens result =
+    MatchResult result (λ read. reads read.0 (left tokens) (left read.1))
+    (λ stop. Halts es (left tokens) stop)
 
 -- So it is with a form, as which a value is seen.
-abbrev pub GivesForm : {T : Type 0} (f : Form) (l : ℕ) → (T → Val f) → List Token
-    → Result (T × Bor (List Token)) Stop → Type 0
-GivesForm f l seen ts result = Gives (λ x. ReadsForm f l (seen x)) (form f l ∷ []) ts result
+abbrev pub GivesForm : {T : Type 0} (f : Form) (l : ℕ) → (T → Val f) → Rest
+    → Result (T × Rest) Stop → Type 0
+GivesForm f l seen tokens result = Gives (λ x. ReadsForm f l (seen x)) (form f l ∷ []) tokens result
 
 -- What is made is as it says, or memory is wanting.
 abbrev pub Makes : {T : Type 0} → (T → Type 0) → Result T Stop → Type 0
@@ -87,7 +93,8 @@ pub record HaltsAtLevels (f : Form) (ts : List Token) (stop : Stop) : Type 0 whe
   pub at_level : (level : ℕ) → HaltsIn f level ts stop
 
 -- What was read was put behind the others.
-pub record Puts {T R : Type 0} (old new : List T) (read : Result (T × R) Stop) (rest : R) : Type 0 where
+pub record Puts {T R : Type 0} (old new : List T) (read : Result (T × R) Stop)
+    (rest : R) : Type 0 where
   pub next : T
   pub was_read : read ≡ Ok (next, rest)
   pub all : new ≡ old ++ next ∷ []
@@ -104,6 +111,11 @@ pub record Heads (k : Tok) (at : Place) (ts rest : List Token) : Type 0 where
 abbrev pub NotFirst : Tok → List Token → Type 0
 NotFirst k [] = Unit {0}
 NotFirst k (t ∷ ts) = ¬ (t.tok ≡ k)
+
+-- No number stands first.
+abbrev pub NoNumber : List Token → Type 0
+NoNumber [] = Unit {0}
+NoNumber (t ∷ ts) = (n : ℕ) → ¬ (t.tok ≡ toks.Number n)
 
 -- whether the token begins a base
 abbrev pub begins_base : Tok → Bool

@@ -5,7 +5,7 @@ use Rattle.revs_lexer.proofs.lexer.token.Goals as goal
 
 pub returns-then-len-gt-MOST-clause-refused : goal.returns-then-len-gt-MOST-clause-refused
 returns-then-len-gt-MOST-clause-refused c =
-    λ own. long_name_at_front c.args.at c.args.text.now c.name_len-len.result c.requires.some c.name_len-len.ensures
+    long_name_at_front c.args.at c.args.text.now c.name_len-len.result c.requires.some c.name_len-len.ensures
     (sym c.is_letter.ensures ∙ c.if-is_letter.true) c.if-len-gt-MOST.true
 
 pub name-requires-clause-identifier : goal.name-requires-clause-identifier
@@ -14,12 +14,12 @@ name-requires-clause-identifier c =
 
 pub returns-then-is_letter-clause-longest : goal.returns-then-is_letter-clause-longest
 returns-then-is_letter-clause-longest c =
-    longest_name c.args.text.now c.name_len-len.result c.in_ok-name.field-0 c.name_len-len.ensures
-    (sym c.is_letter.ensures ∙ c.if-is_letter.true) c.in_ok-name.ensures.spelled
+    longest_name c.args.text.now c.name_len-len.result _ c.name_len-len.ensures
+    (sym c.is_letter.ensures ∙ c.if-is_letter.true) c.name.ensures.spelled
 
 pub returns-then-len-gt-MOST_DIGITS-clause-refused : goal.returns-then-len-gt-MOST_DIGITS-clause-refused
 returns-then-len-gt-MOST_DIGITS-clause-refused c =
-    λ own. long_number_at_front c.args.at c.args.text.now c.digits_len-len.result c.requires.some c.digits_len-len.ensures
+    long_number_at_front c.args.at c.args.text.now c.digits_len-len.result c.requires.some c.digits_len-len.ensures
     (sym c.is_ascii_digit.ensures.value ∙ c.if-is_ascii_digit.true) c.if-len-gt-MOST_DIGITS.true
 
 pub number-requires-clause-digits : goal.number-requires-clause-digits
@@ -38,6 +38,6 @@ returns-in-Some-clause-longest c =
 
 pub returns-in-None-clause-refused : goal.returns-in-None-clause-refused
 returns-in-None-clause-refused c =
-    λ own. bad_byte_at_front c.args.at c.args.text.now c.requires.some c.requires.no_gap
+    bad_byte_at_front c.args.at c.args.text.now c.requires.some c.requires.no_gap
     (no_token c.args.text.now (sym c.is_letter.ensures ∙ c.if-is_letter.false) (sym c.is_ascii_digit.ensures.value ∙ c.if-is_ascii_digit.false)
     (sym c.in-None.ensures))

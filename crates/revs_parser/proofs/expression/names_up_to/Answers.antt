@@ -1,5 +1,6 @@
 use Rattle.std.proofs.Common.{sym, ◌∙◌}
 use Rattle.std.proofs.lemmas.Result.{MatchResult-weaker}
+use Rattle.revs_lexer.specs.Rest.{left}
 use Rattle.revs_parser.proofs.PassingLemmas.{halts_on, lacks}
 use Rattle.revs_parser.proofs.ReadingLemmas.{names_begun, names_more, names_done, names_halt, names_unended}
 use Rattle.revs_parser.proofs.expression.names_up_to.Goals as goal
@@ -25,7 +26,7 @@ returns c =
     (λ x e. names_unended c.loop-names.invariant.read c.args.end last (rw e at c.expect.ensures.halts))
 
 pub loop-names-init : goal.loop-names-init
-loop-names-init c = record { read = names_begun c.args.names.items c.args.tokens.now }
+loop-names-init c = record { read = names_begun c.args.names.items (left c.args.tokens) }
 
 pub loop-names-smaller : goal.loop-names-smaller
 loop-names-smaller c = let read = rw c.in_ok-rest.ensures.was_read at c.name.ensures.ok in read.shorter

@@ -1,11 +1,11 @@
-use Rattle.std.proofs.Common.{rules}
-use Rattle.revs_lexer.specs.declared.token.Tok.TheVariants as toks
-use Rattle.revs_parser.specs.inside.Reading.{Heads}
-use Rattle.revs_parser.proofs.TokenLemmas.{a_name}
+use Rattle.revs_parser.proofs.TokenLemmas.{reads_name, name_stands, name_stops}
 use Rattle.revs_parser.proofs.leaf.name.Goals as goal
 
-pub returns-in_ok-text-in-Some-Name-default-clause-ok : goal.returns-in_ok-text-in-Some-Name-default-clause-ok
-returns-in_ok-text-in-Some-Name-default-clause-ok c =
-    let f = c.in-Some-Name-default in
-    let t = c.in_ok-text-in-Some-Name-default.text in
-    let h : Heads (toks.Name t) f.field-0-0.now.at c.args.tokens.now f.rest.now = search rules in a_name h
+pub returns-in_default-clause-halts : goal.returns-in_default-clause-halts
+returns-in_default-clause-halts c = rw c.len.ensures (name_stops _ c.in_default.ensures.none)
+
+pub returns-in_err-text-clause-memory : goal.returns-in_err-text-clause-memory
+returns-in_err-text-clause-memory c = λ e. name_stands c.in-Some.ensures.found
+
+pub returns-clause-ok : goal.returns-clause-ok
+returns-clause-ok c = reads_name _ c.in-Some.ensures.found c.in_ok-text.ensures

@@ -1,10 +1,8 @@
-use Rattle.std.proofs.Common.{rules}
-use Rattle.revs_lexer.specs.declared.token.Tok.TheVariants as toks
-use Rattle.revs_parser.specs.inside.Reading.{Heads}
-use Rattle.revs_parser.proofs.TokenLemmas.{a_number}
+use Rattle.revs_parser.proofs.TokenLemmas.{a_number, no_number_stops}
 use Rattle.revs_parser.proofs.leaf.number.Goals as goal
 
-pub returns-in-Some-Number-default-clause-ok : goal.returns-in-Some-Number-default-clause-ok
-returns-in-Some-Number-default-clause-ok c =
-    let f = c.in-Some-Number-default in
-    let h : Heads (toks.Number f.n) f.field-0-0.now.at c.args.tokens.now f.rest.now = search rules in a_number h
+pub returns-in-Some-clause-ok : goal.returns-in-Some-clause-ok
+returns-in-Some-clause-ok c = a_number c.in-Some.ensures.found
+
+pub returns-in-None-clause-halts : goal.returns-in-None-clause-halts
+returns-in-None-clause-halts c = rw c.len.ensures (no_number_stops _ c.in-None.ensures.none)

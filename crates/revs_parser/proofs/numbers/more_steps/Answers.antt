@@ -1,9 +1,10 @@
+use Rattle.revs_lexer.specs.Rest.{left}
 use Rattle.revs_parser.proofs.PassingLemmas.{halts_on}
 use Rattle.revs_parser.proofs.NumberLemmas.{steps_begun, steps_more, steps_done, steps_halt}
 use Rattle.revs_parser.proofs.numbers.more_steps.Goals as goal
 
 pub loop-minus-init : goal.loop-minus-init
-loop-minus-init c = record { read = steps_begun c.new-steps.result.items c.args.tokens.now c.new-steps.ensures.items }
+loop-minus-init c = record { read = steps_begun c.new-steps.result.items (left c.args.tokens) c.new-steps.ensures.items }
 
 pub returns-in_err-unit : goal.returns-in_err-unit
 returns-in_err-unit c =

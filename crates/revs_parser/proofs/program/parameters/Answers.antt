@@ -1,9 +1,10 @@
+use Rattle.revs_lexer.specs.Rest.{left}
 use Rattle.revs_parser.proofs.PassingLemmas.{halts_on, lacks}
 use Rattle.revs_parser.proofs.ProgramLemmas.{parameters_begun, parameters_more, parameters_done, parameters_halt}
 use Rattle.revs_parser.proofs.program.parameters.Goals as goal
 
 pub loop-params-init : goal.loop-params-init
-loop-params-init c = record { read = parameters_begun c.args.params.items c.args.tokens.now }
+loop-params-init c = record { read = parameters_begun c.args.params.items (left c.args.tokens) }
 
 pub loop-params-preserved : goal.loop-params-preserved
 loop-params-preserved c =

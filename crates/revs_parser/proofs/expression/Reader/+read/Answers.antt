@@ -3,6 +3,7 @@ use Rattle.revs_terms.specs.Trees.{tree_of}
 use Rattle.revs_terms.proofs.ShapeLemmas.{tree_of-Reg, tree_of-Block, tree_of-Apply}
 use Rattle.revs_terms.proofs.ShapeLemmas.{item_tree_of-Let, item_tree_of-Do, item_tree_of-For}
 use Rattle.std.proofs.lemmas.Result.{MatchResult-weaker}
+use Rattle.revs_lexer.specs.Rest.{left}
 use Rattle.revs_parser.proofs.PassingLemmas.{only, smaller_behind, halts_on}
 use Rattle.revs_parser.proofs.ReadingLemmas as r
 use Rattle.revs_parser.proofs.ItemLemmas as i
@@ -148,19 +149,24 @@ atoms-arguments-smaller t c =
 
 -- ---- atoms
 
+pub atom-returns-then-not-is_part_behind : goal.atom-returns-then-not-is_part_behind
+atom-returns-then-not-is_part_behind t c =
+    r.base_alone c.args.self.profile c.args.self.level (left c.args.tokens) c.base-read.result c.base-read.ensures
+    (c.is_part_behind.ensures c.if-not-is_part_behind.true)
+
 pub atom-returns-in_err-inner : goal.atom-returns-in_err-inner
 atom-returns-in_err-inner t c =
-    halts_on _ _ _ c.from_residual.ensures.1 (r.atom_in_base c.args.self.level c.in_err-inner.ensures)
+    halts_on _ _ _ c.from_residual.ensures.1 (r.atom_in_base c.args.self.level (rw c.in_err-inner.was at c.base-read.ensures))
 
 pub atom-returns-in_err-inner-2 : goal.atom-returns-in_err-inner-2
 atom-returns-in_err-inner-2 t c =
     halts_on _ _ _ c.from_residual-in_err-inner-2.ensures.1
-    (r.atom_in_parts c.args.self.level c.in_ok-inner.ensures (rw c.in_err-inner-2.ensures at c.all_parts.ensures))
+    (r.atom_in_parts c.args.self.level (rw c.in_ok-inner.was at c.base-read.ensures) (rw c.in_err-inner-2.ensures at c.all_parts.ensures))
 
 pub atom-returns : goal.atom-returns
 atom-returns t c =
     let both = c.in_ok-inner-2.ensures in
-    r.atom_reads c.args.self.level c.in_ok-inner.ensures (rw both.1 at c.all_parts.ensures) (rw both.0 at c.in_ok-term.ensures)
+    r.atom_reads c.args.self.level (rw c.in_ok-inner.was at c.base-read.ensures) (rw both.1 at c.all_parts.ensures) (rw both.0 at c.in_ok-term.ensures)
 
 -- ---- bases
 
@@ -222,7 +228,7 @@ register-elements-smaller t c =
 -- ---- blocks
 
 pub block-items-init : goal.block-items-init
-block-items-init t c = record { read = r.block_begun c.args.self.level c.args.tokens.now c.new-items.ensures.items }
+block-items-init t c = record { read = r.block_begun c.args.self.level (left c.args.tokens) c.new-items.ensures.items }
 
 pub block-items-preserved : goal.block-items-preserved
 block-items-preserved t c =
@@ -256,7 +262,7 @@ item_or_last-returns-in_err-term t c =
 
 pub item_or_last-returns : goal.item_or_last-returns
 item_or_last-returns t c = MatchResult-weaker c.piece_of.result c.piece_of.ensures
-    (λ x. i.piece_reads c.args.self.level (sym c.begins_item.ensures ∙ c.if-begins_item.false) c.in_ok-term.ensures x.0 x.1.now)
+    (λ x. i.piece_reads c.args.self.level (sym c.begins_item.ensures ∙ c.if-begins_item.false) c.in_ok-term.ensures x.0 (left x.1))
     (λ x. i.piece_halts c.args.self.level (sym c.begins_item.ensures ∙ c.if-begins_item.false) c.in_ok-term.ensures)
 
 pub item-returns-in-Some : goal.item-returns-in-Some
@@ -265,7 +271,8 @@ item-returns-in-Some t c = MatchResult-weaker c.binding.result c.binding.ensures
     (λ x. i.let_halts c.args.self.level c.in-Some.ensures.found)
 
 pub item-returns-in_default-after_for : goal.item-returns-in_default-after_for
-item-returns-in_default-after_for t c = i.item_stops c.args.self.level c.in_default.ensures.none c.in_default-after_for.ensures.none
+item-returns-in_default-after_for t c =
+    rw c.len.ensures (i.item_stops c.args.self.level c.in_default.ensures.none c.in_default-after_for.ensures.none)
 
 pub item-returns : goal.item-returns
 item-returns t c = MatchResult-weaker c.repetition.result c.repetition.ensures
@@ -275,7 +282,7 @@ item-returns t c = MatchResult-weaker c.repetition.result c.repetition.ensures
 -- ---- loops
 
 pub repetition-returns-in_default : goal.repetition-returns-in_default
-repetition-returns-in_default t c = i.for_no_curly c.args.self.level c.in_ok-name.ensures c.in_default.ensures.none
+repetition-returns-in_default t c = rw c.len.ensures (i.for_no_curly c.args.self.level c.in_ok-name.ensures c.in_default.ensures.none)
 
 pub repetition-returns : goal.repetition-returns
 repetition-returns t c =
@@ -283,7 +290,7 @@ repetition-returns t c =
     c.in_ok-items.ensures (item_tree_of-For _ _ _ c.args.at)
 
 pub loop_items-items-init : goal.loop_items-items-init
-loop_items-items-init t c = record { read = i.loop_begun c.args.self.level c.args.tokens.now c.new-items.ensures.items }
+loop_items-items-init t c = record { read = i.loop_begun c.args.self.level (left c.args.tokens) c.new-items.ensures.items }
 
 pub loop_items-returns-in-Some : goal.loop_items-returns-in-Some
 loop_items-returns-in-Some t c =

@@ -1,5 +1,6 @@
 use Rattle.std.proofs.Common.{ℕ, suc, ◌+◌, ◌-◌, ◌*◌, length, map}
 use Rattle.revs_terms.specs.Trees.{tree_of, item_tree_of}
+use Rattle.revs_lexer.specs.Rest.{left}
 use Rattle.revs_parser.proofs.ReadingLemmas.{InChain, InArguments, InRegister, InBlock}
 use Rattle.revs_parser.proofs.ItemLemmas.{InLoop}
 use Rattle.revs_parser.specs.declared.expression.Infix.{Infix}
@@ -69,32 +70,33 @@ abbrev pub decreases-operand : goal.decreases-operand
 decreases-operand l = (101 - l.self.level) * 16 + operand_height l.operator
 
 abbrev pub invariant-chained-operands : goal.invariant-chained-operands
-invariant-chained-operands l = record { read : InChain l.fn.self.profile l.fn.operator l.fn.self.level (map tree_of l.terms.items) l.fn.tokens l.behind }
+invariant-chained-operands l =
+    record { read : InChain l.fn.self.profile l.fn.operator l.fn.self.level (map tree_of l.terms.items) (left l.fn.tokens) (left l.behind) }
 
 abbrev pub decreases-chained-operands : goal.decreases-chained-operands
-decreases-chained-operands l = length l.behind
+decreases-chained-operands l = length (left l.behind)
 
 abbrev pub invariant-atoms-arguments : goal.invariant-atoms-arguments
 invariant-atoms-arguments l =
-    record { read : InArguments l.fn.self.profile l.fn.self.level (tree_of l.head.value) (map tree_of l.arguments.items) l.fn.tokens l.rest }
+    record { read : InArguments l.fn.self.profile l.fn.self.level (tree_of l.head.value) (map tree_of l.arguments.items) (left l.fn.tokens) (left l.rest) }
 
 abbrev pub decreases-atoms-arguments : goal.decreases-atoms-arguments
-decreases-atoms-arguments l = length l.rest
+decreases-atoms-arguments l = length (left l.rest)
 
 abbrev pub invariant-register-elements : goal.invariant-register-elements
-invariant-register-elements l = record { read : InRegister l.fn.self.profile l.fn.self.level (map tree_of l.elements.items) l.fn.tokens l.behind }
+invariant-register-elements l = record { read : InRegister l.fn.self.profile l.fn.self.level (map tree_of l.elements.items) (left l.fn.tokens) (left l.behind) }
 
 abbrev pub decreases-register-elements : goal.decreases-register-elements
-decreases-register-elements l = length l.behind
+decreases-register-elements l = length (left l.behind)
 
 abbrev pub invariant-block-items : goal.invariant-block-items
-invariant-block-items l = record { read : InBlock l.fn.self.profile l.fn.self.level (map item_tree_of l.items.items) l.fn.tokens l.rest }
+invariant-block-items l = record { read : InBlock l.fn.self.profile l.fn.self.level (map item_tree_of l.items.items) (left l.fn.tokens) (left l.rest) }
 
 abbrev pub decreases-block-items : goal.decreases-block-items
-decreases-block-items l = length l.rest
+decreases-block-items l = length (left l.rest)
 
 abbrev pub invariant-loop_items-items : goal.invariant-loop_items-items
-invariant-loop_items-items l = record { read : InLoop l.fn.self.profile l.fn.self.level (map item_tree_of l.items.items) l.fn.tokens l.rest }
+invariant-loop_items-items l = record { read : InLoop l.fn.self.profile l.fn.self.level (map item_tree_of l.items.items) (left l.fn.tokens) (left l.rest) }
 
 abbrev pub decreases-loop_items-items : goal.decreases-loop_items-items
-decreases-loop_items-items l = length l.rest
+decreases-loop_items-items l = length (left l.rest)

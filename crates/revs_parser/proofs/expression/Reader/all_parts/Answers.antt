@@ -1,4 +1,5 @@
 use Rattle.std.proofs.Common.{ap, length, arith}
+use Rattle.revs_lexer.specs.Rest.{left}
 use Rattle.revs_parser.proofs.PassingLemmas.{halts_on, lacks}
 use Rattle.revs_parser.proofs.ReadingLemmas.{parts_begun, parts_more, parts_halt, parts_done}
 use Rattle.revs_parser.proofs.expression.Reader.all_parts.Goals as goal
@@ -12,7 +13,7 @@ pub returns : goal.returns
 returns c = parts_done c.loop-at.invariant.read c.in_default.ensures.none
 
 pub loop-at-init : goal.loop-at-init
-loop-at-init c = record { read = parts_begun c.new-parts.result.items c.args.tokens.now c.new-parts.ensures.items }
+loop-at-init c = record { read = parts_begun c.new-parts.result.items (left c.args.tokens) c.new-parts.ensures.items }
 
 pub returns-in_err-rest : goal.returns-in_err-rest
 returns-in_err-rest c =
