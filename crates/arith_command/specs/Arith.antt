@@ -54,8 +54,8 @@ pub record IsProgramOf (order : OrderView) (written : List ℕ) : Type 0 where
   pub text : written ≡ program_text order
   pub computes : Computes order.kind order.number order.by written
 
--- On this input, with 0 on the work lines, the gates add to whatever the output lines hold what the kind says of the
--- numbers of the input, and leave the other lines as they were.
+-- On this input, with 0 on the work lines, the gates add to whatever the output lines hold what the
+-- kind says of the numbers of the input, and leave the other lines as they were.
 pub record AddsNumbers (order : OrderView) (roles : Roles) (gates : List GateView)
     (input : List Bool) : Type 0 where
   pub output : List Bool
@@ -64,8 +64,9 @@ pub record AddsNumbers (order : OrderView) (roles : Roles) (gates : List GateVie
   pub adds : (held : List Bool) → length held ≡ roles.outputs
       → AddsOutput roles gates input held output []
 
--- The file means a circuit of flips with at most two controls, all positive, which computes what the kind says on every
--- input, within the usual lines and gates; it is the one that `compile` writes for the text of the program.
+-- The file means a circuit of flips with at most two controls, all positive, which computes what
+-- the kind says on every input, within the usual lines and gates; it is the one that `compile`
+-- writes for the text of the program.
 pub record IsCircuitOf (format : Format) (order : OrderView) (file : List ℕ) : Type 0 where
   pub roles : Roles
   pub gates : List GateView
@@ -104,7 +105,8 @@ IsCause order text fault = StopsAs order.write order fault
 
 -- ---- where something is, unless memory or a device is wanting
 
--- for a program always; for a circuit where some row of the budget numbers fits the usual lines and gates
+-- for a program always; for a circuit where some row of the budget numbers fits the usual lines and
+-- gates
 abbrev pub ServesAs : Write → OrderView → Type 0
 ServesAs Program order = Unit {0}
 ServesAs Real order = HasFittingRow (compile_order formats.Real) (program_text order)

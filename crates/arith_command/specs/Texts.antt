@@ -13,7 +13,8 @@ pub record IsProgramSize (kind : Kind) (n by : ℕ) : Type 0 where
   pub few : n ≤ MOST_BITS
   pub factor : kind ≡ Mul → (1 ≤ by) × (by ≤ MOST_FACTOR)
 
--- The law: each text is well formed for a program without claims, which computes what its kind says.
+-- The law: each text is well formed for a program without claims, which computes what its kind
+-- says.
 abbrev pub TextsCompute : Type 0
 TextsCompute =
     (kind : Kind) (n by : ℕ) → IsProgramSize kind n by → Computes kind n by (text_of kind n by)

@@ -10,7 +10,8 @@ use Rattle.arith_templates.specs.declared.kind.Kind.TheVariants.{Add, Sub, Less}
 use Rattle.arith_templates.specs.Meets.{inputs_of, outputs_of, Meets}
 use Rattle.arith_templates.specs.Texts.{text_of}
 
--- The text is well formed for a program without claims, with the inputs and outputs of its kind, which computes what the kind does.
+-- The text is well formed for a program without claims, with the inputs and outputs of its kind,
+-- which computes what the kind does.
 pub record Computes (kind : Kind) (n by : ℕ) (text : List ℕ) : Type 0 where
   pub program : ProgramView
   pub formed : IsWellFormed text program

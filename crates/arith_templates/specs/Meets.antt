@@ -21,7 +21,8 @@ outputs_of Less n by = 1
 outputs_of Inc n by = n + 1
 outputs_of Mul n by = n + length (digits_of by)
 
--- The n + 1 bits are the difference of the numbers: the last says whether the first is less, and 2^n is added in that case.
+-- The n + 1 bits are the difference of the numbers: the last says whether the first is less, and
+-- 2^n is added in that case.
 pub record IsDifference (n first second : ℕ) (bits : List Bool) : Type 0 where
   pub less : IsTrue (bit_of bits n) ↔ (first < second)
   pub value : second ≤ first → number (take n bits) ≡ first - second

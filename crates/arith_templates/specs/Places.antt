@@ -9,7 +9,8 @@ use Rattle.arith_templates.specs.Numbers.{bit, number}
 abbrev pub carry : Bool → Bool → Bool → Bool
 carry x y c = xor (x && y) (c && xor x y)
 
--- the sum of two numbers of as many bits, into whose first place a carry comes: its last bit is the last carry
+-- the sum of two numbers of as many bits, into whose first place a carry comes: its last bit is the
+-- last carry
 abbrev pub sums : Bool → List Bool → List Bool → List Bool
 sums c (x ∷ xs) (y ∷ ys) = xor (xor x y) c ∷ sums (carry x y c) xs ys
 sums c [] ys = c ∷ []
@@ -23,7 +24,8 @@ SumsAdd = (c : Bool) (xs ys : List Bool) → length xs ≡ length ys
 
 -- ---- differences
 
--- the borrow out of a place: only the second bit is set, or a borrow comes in and the bits are the same
+-- the borrow out of a place: only the second bit is set, or a borrow comes in and the bits are the
+-- same
 abbrev pub borrow : Bool → Bool → Bool → Bool
 borrow x y c = xor (xor true x && y) (c && xor (xor true x) y)
 
@@ -66,7 +68,8 @@ IncrementsAdd = (c : Bool) (xs : List Bool)
 
 -- ---- products
 
--- Shift and add: r and, for each binary digit from place k on that is 1, the number a shifted to its place.
+-- Shift and add: r and, for each binary digit from place k on that is 1, the number a shifted to
+-- its place.
 abbrev pub products : List Bool → ℕ → List Bool → List Bool → List Bool
 products r k a [] = r
 products r k a (false ∷ ds) = products (r ++ false ∷ []) (k + 1) a ds

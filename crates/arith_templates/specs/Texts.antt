@@ -1,4 +1,5 @@
--- The texts of all kinds, line by line. Numbers have n bits, whose places are counted from the least bit.
+-- The texts of all kinds, line by line. Numbers have n bits, whose places are counted from the
+-- least bit.
 use Rattle.std.specs.Prelude.{ℕ, zero, suc, ◌+◌, ◌-◌, Bool, true, false, List, [], ◌∷◌, ◌++◌, length, codes, decimal}
 use Rattle.std.specs.List.{flat_map, range_with_len}
 use Rattle.program_gen.specs.Adder.{bit_line, next_line, parameters, carry_function, first_place, place, adder_text}
@@ -15,7 +16,8 @@ parameter n = line (codes "main (a : bool[" ∷ decimal n ∷ codes "]) = {" ∷
 
 -- ---- differences
 
--- the borrow out of a place: only the second bit is set, or a borrow comes in and the bits are the same
+-- the borrow out of a place: only the second bit is set, or a borrow comes in and the bits are the
+-- same
 unfoldable pub borrow_function : List ℕ
 borrow_function =
     line (codes "let lend x y c = ((true <> x) && y) <> (c && (true <> x <> y));" ∷ [])

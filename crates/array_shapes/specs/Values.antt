@@ -4,9 +4,10 @@ use Rattle.revs_terms.specs.declared.term.Lambda.{Lambda}
 use Rattle.array_shapes.specs.declared.value.Value.{Value}
 use Rattle.array_shapes.specs.declared.value.Value.TheVariants as variants
 
--- Nothing, the location of a bit, the locations of a register, a number, or a function: the number of its environment, how many of
--- its names are taken, and the function itself. That is the program's own `Lambda`, since a run goes on with its names and its
--- body; definitions over trees take the tree of its body.
+-- Nothing, the location of a bit, the locations of a register, a number, or a function: the number
+-- of its environment, how many of its names are taken, and the function itself. That is the
+-- program's own `Lambda`, since a run goes on with its names and its body; definitions over trees
+-- take the tree of its body.
 pub data ValueView : Type 0 where
   unit : ValueView
   bit : ℕ → ValueView

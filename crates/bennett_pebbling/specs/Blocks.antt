@@ -1,4 +1,5 @@
--- The numbers of a block: rows of lines and gates that pebbling by halves down to blocks of nodes never passes.
+-- The numbers of a block: rows of lines and gates that pebbling by halves down to blocks of nodes
+-- never passes.
 use Rattle.std.specs.Prelude.{◌≡◌, ℕ, ◌+◌, ◌*◌, ◌^◌, ◌<◌, ◌≤◌}
 use Rattle.claim_check.specs.Budgets.{Measures, block_lines, block_gates, fine_lines, fine_gates}
 use Rattle.circuit_plans.specs.declared.plan.PlanFault.{PlanFault}
@@ -6,8 +7,8 @@ use Rattle.circuit_plans.specs.declared.plan.PlanFault.TheVariants.{Lines, Gates
 use Rattle.circuit_plans.specs.Plans.{BudgetView}
 use Rattle.held_nodes.specs.Plans.{HasPortLines, wanted_lines}
 
--- What of a graph is counted: the measures within which it is, its inputs and outputs, its nodes, and the gates of a
--- plan with one block of all nodes.
+-- What of a graph is counted: the measures within which it is, its inputs and outputs, its nodes,
+-- and the gates of a plan with one block of all nodes.
 pub record Extent : Type 1 where
   pub is_within : Measures → Type 0
   pub ports : ℕ
@@ -19,8 +20,9 @@ pub record IsHalved (e : Extent) (block levels : ℕ) (m : Measures) : Type 0 wh
   pub within : e.is_within m
   pub enough : e.nodes ≤ block * 2 ^ levels
 
--- The lines and gates of each row of the block's numbers: of as many halvings as are enough; for a block of one node
--- the fine numbers; and where one block has all nodes, one work line for each and the gates of such a plan.
+-- The lines and gates of each row of the block's numbers: of as many halvings as are enough; for a
+-- block of one node the fine numbers; and where one block has all nodes, one work line for each and
+-- the gates of such a plan.
 pub record InEachRow (e : Extent) (block borrowed : ℕ) (holds : ℕ → ℕ → Type 0) : Type 0 where
   pub halved : (m : Measures) (levels : ℕ) → IsHalved e block levels m
       → holds (block_lines m block levels borrowed) (block_gates m block levels)
@@ -41,7 +43,8 @@ HasFewLines e block b = InEachRow e block b.borrow (λ row_lines row_gates. b.li
 abbrev pub HasFewGates : Extent → ℕ → BudgetView → Type 0
 HasFewGates e block b = InEachRow e block b.borrow (λ row_lines row_gates. b.gates < row_gates)
 
--- why there is no plan; memory is wanted only where the budget has the lines of the inputs and outputs
+-- why there is no plan; memory is wanted only where the budget has the lines of the inputs and
+-- outputs
 abbrev pub IsBlockFault : Extent → ℕ → BudgetView → PlanFault → Type 0
 IsBlockFault e block b (Lines need) = HasFewLines e block b × (need ≡ wanted_lines e.ports b)
 IsBlockFault e block b Gates = HasFewGates e block b

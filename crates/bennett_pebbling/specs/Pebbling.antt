@@ -25,7 +25,8 @@ pub record IsLight (s : SumGraphView) : Type 0 where
   pub toggles : AllByRecursion (λ (node : SumView). toggle_weight node ≤ 2) s.nodes
   pub outputs : AllByRecursion IsCopy s.outputs
 
--- A light graph is within measures: it has these inputs and outputs, no more nodes, and no longer cuts.
+-- A light graph is within measures: it has these inputs and outputs, no more nodes, and no longer
+-- cuts.
 pub record IsSumWithin (s : SumGraphView) (m : Measures) : Type 0 where
   pub light : IsLight s
   pub inputs : s.inputs ≡ m.inputs
@@ -55,8 +56,8 @@ IsWithinBlock s block p =
 pub record HasLineEach (s : SumGraphView) (p : PlannedView) : Type 0 where
   pub few : p.circuit.lines ≤ first_work s + length s.nodes
 
--- where one block has all nodes, the plan has at most two flips under two lines for each product of a node, and one for
--- each of an output
+-- where one block has all nodes, the plan has at most two flips under two lines for each product of
+-- a node, and one for each of an output
 pub record HasFewProducts (s : SumGraphView) (block : ℕ) (p : PlannedView) : Type 0 where
   pub plain : length s.nodes ≤ block
       → (counts_of p.circuit.gates).ccx ≤ 2 * products_in s.nodes + products_in s.outputs

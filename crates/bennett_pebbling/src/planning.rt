@@ -16,8 +16,8 @@ use sum_graph::SumGraph;
 /// what the second half of the nodes needs of the first, then the outputs in the second half, and
 /// then cleans the first half of what is no output; each half goes in the same way, and a block is
 /// computed node by node. The circuit takes each input and zeros to that input, the outputs, and
-/// zeros. It has at most a line for each input, output and node. Where one block has all nodes, each
-/// node is toggled at most twice.
+/// zeros. It has at most a line for each input, output and node. Where one block has all nodes,
+/// each node is toggled at most twice.
 ///
 /// # Errors
 ///

@@ -23,7 +23,8 @@ pub record IsShort (f : FactorView) : Type 0 where
 abbrev pub sum_of_factor : FactorView → SumView
 sum_of_factor f = record { bits = f.bits; products = []; one = f.one }
 
--- The sum with a product put into it has both values, of no other bases, with at most one product more.
+-- The sum with a product put into it has both values, of no other bases, with at most one product
+-- more.
 pub record IsPut (old : SumView) (product : ProductView) (new : SumView) : Type 0 where
   pub values : (bit : Base → Bool) → sum_value bit new
       ≡ xor (sum_value bit old) (product_value bit product)
@@ -32,21 +33,24 @@ pub record IsPut (old : SumView) (product : ProductView) (new : SumView) : Type 
   pub few : length new.products ≤ length old.products + 1
   pub light : weight_of new ≤ weight_of old + 21
 
--- The sum of two has both values, of no other bases, with no more products and no more weight than both.
+-- The sum of two has both values, of no other bases, with no more products and no more weight than
+-- both.
 pub record IsSumOf (a b sum : SumView) : Type 0 where
   pub values : (bit : Base → Bool) → sum_value bit sum ≡ xor (sum_value bit a) (sum_value bit b)
   pub over : (test : Base → Bool) → IsSumOver test a → IsSumOver test b → IsSumOver test sum
   pub few : length sum.products ≤ length a.products + length b.products
   pub light : weight_of sum ≤ weight_of a + weight_of b
 
--- The product of two factors has the values of their conjunction, of no other bases, with at most one product.
+-- The product of two factors has the values of their conjunction, of no other bases, with at most
+-- one product.
 pub record IsTimes (a b : FactorView) (sum : SumView) : Type 0 where
   pub values : (bit : Base → Bool) → sum_value bit sum ≡ (factor_value bit a && factor_value bit b)
   pub over : (test : Base → Bool) → AreAll test a.bits → AreAll test b.bits → IsSumOver test sum
   pub few : length sum.products ≤ 1
   pub light : weight_of sum ≤ 29
 
--- A finished sum has the value of the one that grew, of no other bases, with as many products; its bits rise.
+-- A finished sum has the value of the one that grew, of no other bases, with as many products; its
+-- bits rise.
 pub record IsFinished (grown sum : SumView) : Type 0 where
   pub values : (bit : Base → Bool) → sum_value bit sum ≡ sum_value bit grown
   pub over : (test : Base → Bool) → IsSumOver test grown → IsSumOver test sum

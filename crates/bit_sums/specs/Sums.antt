@@ -1,4 +1,5 @@
--- Exclusive sums of a constant, of bits, and of products of two sums of bits. A bit is an input or a node of a graph.
+-- Exclusive sums of a constant, of bits, and of products of two sums of bits. A bit is an input or
+-- a node of a graph.
 use Rattle.std.specs.Prelude.{◌≡◌, ℕ, ◌+◌, ◌*◌, Bool, true, false, ◌&&◌, List, [], ◌∷◌, ◌++◌, length}
 use Rattle.std.specs.Bool.{xor}
 use Rattle.std.specs.List.{AllByRecursion, flat_map}

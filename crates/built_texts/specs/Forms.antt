@@ -16,7 +16,8 @@ use Rattle.built_texts.specs.Meanings.{Meaning, Scope, of_bit, of_bits, of_funct
 abbrev pub num : ℕ → Place → List Step
 num i at = plus (units.Digits i at) ∷ []
 
--- Each form of term runs one deeper than its parts. It counts its entry, the work and the writes of its parts, and what it makes.
+-- Each form of term runs one deeper than its parts. It counts its entry, the work and the writes of
+-- its parts, and what it makes.
 pub record FormsRun : Type 0 where
   pub name : (d : ℕ) (sc : Scope) (m : Meaning) (n : Name) → meaning_of n.text sc ≡ Some m
       → IsRun (suc d) sc (used n) m 1
@@ -31,7 +32,8 @@ pub record FormsRun : Type 0 where
       (of_bits (take (j + 1 - i) (drop i bs))) (1 + k + length (take (j + 1 - i) (drop i bs)))
   pub xor_chain : (d j k : ℕ) (sc : Scope) (t : Tree) (ts : List Tree) (b : Bool) (bs : List Bool)
       → IsRun d sc t (of_bit b) j → AreRuns d sc ts bs k
-      → IsRun (suc d) sc (xors (trees (t ∷ ts))) (of_bit (chained xor b bs)) (1 + (j + k + length bs))
+      → IsRun (suc d) sc (xors (trees (t ∷ ts))) (of_bit (chained xor b bs))
+      (1 + (j + k + length bs))
   pub and_chain : (d j k : ℕ) (sc : Scope) (t : Tree) (ts : List Tree) (b : Bool) (bs : List Bool)
       → IsRun d sc t (of_bit b) j → AreRuns d sc ts bs k
       → IsRun (suc d) sc (ands (trees (t ∷ ts))) (of_bit (chained ◌&&◌ b bs))
@@ -48,5 +50,6 @@ pub record FormsRun : Type 0 where
   pub appended : (d j k : ℕ) (sc : Scope) (t u : Tree) (bs cs : List Bool) (at : Place)
       → IsRun d sc t (of_bits bs) j → IsRun d sc u (of_bits cs) k → length (bs ++ cs) ≤ MOST_PLACES
       → IsRun (suc d) sc (append t u at) (of_bits (bs ++ cs)) (1 + (j + k + length (bs ++ cs)))
-  pub in_block : (d k : ℕ) (sc : Scope) (is : List ItemTree) (last : Tree) (m : Meaning) (at : Place)
+  pub in_block : (d k : ℕ) (sc : Scope) (is : List ItemTree) (last : Tree) (m : Meaning)
+      (at : Place)
       → RunsBody d sc is last m k → IsRun (suc d) sc (block (item_trees is) last at) m (1 + k)

@@ -8,8 +8,8 @@ use Rattle.revs_terms.specs.Running.{Value, bit, register, closure, Environment,
 use Rattle.revs_terms.specs.Runs.{real_bits}
 use Rattle.revs_terms.specs.Scopes.{scoped, nearer, scoped_tree}
 
--- What a term means: a bit, the bits of a register, or a function of the names that are not taken yet, with its body as it was
--- parsed and what its names mean.
+-- What a term means: a bit, the bits of a register, or a function of the names that are not taken
+-- yet, with its body as it was parsed and what its names mean.
 mutual
   pub data Meaning : Type 0 where
     of_bit : Bool → Meaning
@@ -55,7 +55,8 @@ abbrev mutual
   Agrees store (of_bit b) (bit location) = Holds store b location
   Agrees store (of_bits bs) (register locations) = AreHeld store bs locations
   Agrees store (of_function names body sc) (closure others inner env) =
-      (names ≡ others) × (scoped_tree (nearer names (names_in sc)) body ≡ scoped inner) × AgreesIn store sc env
+      (names ≡ others) × (scoped_tree (nearer names (names_in sc)) body ≡ scoped inner)
+      × AgreesIn store sc env
   Agrees store _ _ = ⊥
 
   pub AgreesIn : List (Option (Stamped Bool)) → Scope → Environment → Type 0
@@ -68,8 +69,8 @@ pub record HasRoom (s : State Bool) (k : ℕ) : Type 0 where
   pub work : s.work + k ≤ MOST_WORK
   pub writes : length s.log + k ≤ MOST_WRITES
 
--- The run went on from one state to another: what locations held they hold, work and writes rose by no more than this, and no claim
--- was made.
+-- The run went on from one state to another: what locations held they hold, work and writes rose by
+-- no more than this, and no claim was made.
 pub record Grew (s u : State Bool) (k : ℕ) : Type 0 where
   pub kept : (location : ℕ) (held : Option (Stamped Bool)) → slice_get s.store location ≡ Some held
       → slice_get u.store location ≡ Some held
@@ -85,12 +86,14 @@ pub record Goes {A : Type 0} (P : A → State Bool → Type 0) (o : Outcome Bool
   pub holds : P answer state
 
 -- The value has this meaning, and the run went on by no more than this.
-pub record Means (s : State Bool) (m : Meaning) (k : ℕ) (value : Value) (u : State Bool) : Type 0 where
+pub record Means (s : State Bool) (m : Meaning) (k : ℕ) (value : Value)
+    (u : State Bool) : Type 0 where
   pub agrees : Agrees u.store m value
   pub grew : Grew s u k
 
--- A term as it was parsed, whose names are not bound yet, is bound in this scope, and its run at this depth ends with this meaning
--- within so many units of work and writes, wherever the names have their meanings.
+-- A term as it was parsed, whose names are not bound yet, is bound in this scope, and its run at
+-- this depth ends with this meaning within so many units of work and writes, wherever the names
+-- have their meanings.
 pub record IsRun (depth : ℕ) (sc : Scope) (term : Tree) (m : Meaning) (k : ℕ) : Type 0 where
   pub tree : Tree
   pub scoped_as : scoped_tree (names_in sc) term ≡ scoped tree
@@ -101,26 +104,33 @@ pub record IsRun (depth : ℕ) (sc : Scope) (term : Tree) (m : Meaning) (k : ℕ
 pub data AreRuns (depth : ℕ) (sc : Scope) : List Tree → List Bool → ℕ → Type 0 where
   no_operands : AreRuns depth sc [] [] 0
   operand : {t : Tree} {ts : List Tree} {b : Bool} {bs : List Bool} {j k : ℕ}
-      → IsRun depth sc t (of_bit b) j → AreRuns depth sc ts bs k → AreRuns depth sc (t ∷ ts) (b ∷ bs) (j + k)
+      → IsRun depth sc t (of_bit b) j → AreRuns depth sc ts bs k
+      → AreRuns depth sc (t ∷ ts) (b ∷ bs) (j + k)
 
 -- the bit of a chain: the first, with each next one
 abbrev pub chained : (Bool → Bool → Bool) → Bool → List Bool → Bool
 chained op b [] = b
 chained op b (c ∷ cs) = chained op (op b c) cs
 
--- What a function gives that takes these arguments, one by one: with its last name its body is run in its own scope.
+-- What a function gives that takes these arguments, one by one: with its last name its body is run
+-- in its own scope.
 pub data Applies (depth : ℕ) (sc : Scope) : Meaning → List Tree → Meaning → ℕ → Type 0 where
   all_taken : {m : Meaning} → Applies depth sc m [] m 0
-  takes : {t body : Tree} {ts : List Tree} {n next : Name} {ns : List Name} {own : Scope} {a r : Meaning} {j k : ℕ}
-      → IsRun depth sc t a j → Applies depth sc (of_function (next ∷ ns) body (named n.text a own)) ts r k
+  takes : {t body : Tree} {ts : List Tree} {n next : Name} {ns : List Name} {own : Scope}
+      {a r : Meaning} {j k : ℕ}
+      → IsRun depth sc t a j → Applies depth sc
+      (of_function (next ∷ ns) body (named n.text a own)) ts r k
       → Applies depth sc (of_function (n ∷ next ∷ ns) body own) (t ∷ ts) r (j + length_of a + k)
-  takes_last : {t body : Tree} {ts : List Tree} {n : Name} {own : Scope} {a m r : Meaning} {j k l : ℕ}
+  takes_last : {t body : Tree} {ts : List Tree} {n : Name} {own : Scope} {a m r : Meaning}
+      {j k l : ℕ}
       → IsRun depth sc t a j → IsRun depth (named n.text a own) body m l → Applies depth sc m ts r k
       → Applies depth sc (of_function (n ∷ []) body own) (t ∷ ts) r (j + length_of a + l + k)
 
 -- Items and a last expression behind them: each `let` binds its name behind it.
 pub data RunsBody (depth : ℕ) : Scope → List ItemTree → Tree → Meaning → ℕ → Type 0 where
-  last_is : {sc : Scope} {t : Tree} {m : Meaning} {k : ℕ} → IsRun depth sc t m k → RunsBody depth sc [] t m k
-  let_is : {sc : Scope} {v last : Tree} {name : Name} {items : List ItemTree} {a m : Meaning} {j k : ℕ}
+  last_is : {sc : Scope} {t : Tree} {m : Meaning} {k : ℕ} → IsRun depth sc t m k
+      → RunsBody depth sc [] t m k
+  let_is : {sc : Scope} {v last : Tree} {name : Name} {items : List ItemTree} {a m : Meaning}
+      {j k : ℕ}
       → IsRun depth sc v a j → RunsBody depth (named name.text a sc) items last m k
       → RunsBody depth sc (bind name v ∷ items) last m (j + length_of a + k)

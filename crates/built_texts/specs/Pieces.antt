@@ -47,13 +47,15 @@ abbrev pub begins_without : (ℕ → Bool) → List ℕ → Bool
 begins_without q [] = true
 begins_without q (b ∷ bs) = not (q b)
 
--- whether a sign ends in front of this text: `.` in front of no dot, `-` in front of no `>`, any other sign anywhere
+-- whether a sign ends in front of this text: `.` in front of no dot, `-` in front of no `>`, any
+-- other sign anywhere
 abbrev pub sign_ends : Sign → List ℕ → Bool
 sign_ends s rest =
     cond (bytes_eq (sign_text s) (codes ".")) (begins_without (λ b. 46 == b) rest)
     (cond (bytes_eq (sign_text s) (codes "-")) (begins_without (λ b. 62 == b) rest) true)
 
--- Whether a token ends in front of this text: a name and a word in front of no byte of a name, a number in front of no digit.
+-- Whether a token ends in front of this text: a name and a word in front of no byte of a name, a
+-- number in front of no digit.
 abbrev pub ends : Tok → List ℕ → Bool
 ends (toks.Name text) rest = begins_without is_name_byte rest
 ends (toks.Word w) rest = begins_without is_name_byte rest

@@ -39,7 +39,8 @@ IsOutput (of_bits bs) = length bs ≤ MOST_OUTPUTS
 IsOutput (of_function names body sc) = ⊥
 
 -- On every input the body, whose names are not bound yet, means this, within the limits of runs.
-pub record IsBodyRun (params : List Param) (unbound : Tree) (means : List Bool → Meaning) : Type 0 where
+pub record IsBodyRun (params : List Param) (unbound : Tree)
+    (means : List Bool → Meaning) : Type 0 where
   pub units : ℕ
   pub few : units ≤ MOST_WRITES
   pub runs : (input : List Bool) → IsInput params input
@@ -59,7 +60,8 @@ ProgramGives =
     → second_of [] params ≡ None → IsBodyRun params unbound means
     → (body : Tree) × (scope_verdict params unbound ≡ bound_as body) × Puts params body means
 
--- The text that is built of these pieces is the sentence of a program with these parameters and this body, within the limits.
+-- The text that is built of these pieces is the sentence of a program with these parameters and
+-- this body, within the limits.
 pub record IsBuilt (ps : List Piece) (params : List Param) (unbound : Tree) : Type 0 where
   pub good : AreGood (toks_of ps)
   pub fit : IsTrue (fits ps)
@@ -73,4 +75,5 @@ abbrev pub TextGives : Type 0
 TextGives =
     (ps : List Piece) (params : List Param) (unbound : Tree) (means : List Bool → Meaning)
     → IsBuilt ps params unbound → IsBodyRun params unbound means
-    → (body : Tree) × IsWellFormed (text_of ps) (record { params = params; body = body }) × Puts params body means
+    → (body : Tree) × IsWellFormed (text_of ps) (record { params = params; body = body })
+    × Puts params body means

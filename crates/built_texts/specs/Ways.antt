@@ -1,5 +1,5 @@
--- Where tokens lead in the grammar, computed from its table: what is expected behind them, and how what stands for that tells what
--- stands for what was expected in front of them.
+-- Where tokens lead in the grammar, computed from its table: what is expected behind them, and how
+-- what stands for that tells what stands for what was expected in front of them.
 use Rattle.std.specs.Prelude.{◌≡◌, ℕ, zero, suc, ◌+◌, ◌==◌, Bool, true, false, ◌&&◌, Option, Some, None, IfSome, List, [], ◌∷◌, ◌++◌}
 use Rattle.revc_base.specs.declared.place.Place.{Place}
 use Rattle.revs_lexer.specs.declared.token.Tok.{Tok}
@@ -30,13 +30,15 @@ pub record Way (ss : List Symbol) : Type 0 where
   pub left : List Symbol
   pub turn : Vals left → Vals ss
 
--- The tokens lead over no more than 100 levels from what is expected in front of them to what is expected behind them, and turn what
--- stands for the latter into what stands for the former.
-pub record Turns (ss : List Symbol) (ts : List Token) (left : List Symbol) (turn : Vals left → Vals ss) : Type 0 where
+-- The tokens lead over no more than 100 levels from what is expected in front of them to what is
+-- expected behind them, and turn what stands for the latter into what stands for the former.
+pub record Turns (ss : List Symbol) (ts : List Token) (left : List Symbol)
+    (turn : Vals left → Vals ss) : Type 0 where
   pub leads : Leads few_levels ss ts left
   pub turned : (vs : Vals left) → value leads vs ≡ turn vs
 
--- Whether a token that is no number is of the marked kind. A number is read by its form, which takes all numbers alike.
+-- Whether a token that is no number is of the marked kind. A number is read by its form, which
+-- takes all numbers alike.
 abbrev pub is_of : Mark → Tok → Bool
 is_of m (toks.Number n) = false
 is_of m (toks.Name text) = code (toks.Name text) == mark_code m
@@ -57,10 +59,12 @@ module _ (t : Token) where
   kept_way m ss = way_if (is_of m t.tok) (record { left = ss; turn = λ vs. (held m t, vs) })
 
   abbrev pub opened : (m : Mark) (l : ℕ) (ss : List Symbol) → Option (Way (opening_token m l ∷ ss))
-  opened m l ss = way_if (is_of m t.tok && few_levels l) (record { left = ss; turn = λ vs. (held m t, vs) })
+  opened m l ss =
+      way_if (is_of m t.tok && few_levels l) (record { left = ss; turn = λ vs. (held m t, vs) })
 
   -- a number
-  abbrev pub numeral_way : Tok → (p : Profile) (l : ℕ) (ss : List Symbol) → Option (Way (form (in_profile p number) l ∷ ss))
+  abbrev pub numeral_way : Tok → (p : Profile) (l : ℕ) (ss : List Symbol)
+      → Option (Way (form (in_profile p number) l ∷ ss))
   numeral_way (toks.Number n) p l ss = Some (record { left = ss; turn = λ vs. (numeral_in t, vs) })
   numeral_way (toks.Name text) p l ss = None
   numeral_way (toks.Word w) p l ss = None
@@ -68,7 +72,8 @@ module _ (t : Token) where
   numeral_way toks.End p l ss = None
 
   -- the first piece of a line, where forms are entered so
-  abbrev pub way_line : ((f : Form) (l : ℕ) (ss : List Symbol) → Option (Way (form f l ∷ ss))) → (l : ℕ) (ps : List Piece)
+  abbrev pub way_line : ((f : Form) (l : ℕ) (ss : List Symbol) → Option (Way (form f l ∷ ss)))
+      → (l : ℕ) (ps : List Piece)
       (ss : List Symbol) → Option (Way (symbols l ps ++ ss))
   way_line into l [] ss = None
   way_line into l (one m ∷ ps) ss = dropped m (symbols l ps ++ ss)
@@ -77,7 +82,8 @@ module _ (t : Token) where
   way_line into l (sub d f ∷ ps) ss = into f (level d l) (symbols l ps ++ ss)
 
   -- the first line of a form that the token begins
-  abbrev pub way_lines : ((f : Form) (l : ℕ) (ss : List Symbol) → Option (Way (form f l ∷ ss))) → (f : Form) (l : ℕ) (ss : List Symbol)
+  abbrev pub way_lines : ((f : Form) (l : ℕ) (ss : List Symbol) → Option (Way (form f l ∷ ss)))
+      → (f : Form) (l : ℕ) (ss : List Symbol)
       → List (Production (Val f)) → Option (Way (form f l ∷ ss))
   way_lines into f l ss [] = None
   way_lines into f l ss (p ∷ ps) = elim (way_line into l p.pieces ss) [
@@ -93,7 +99,8 @@ module _ (t : Token) where
   ]
 
   -- a form, where forms stand in one another at most so deep at the front
-  abbrev pub way_form : ℕ → (k : Kind) (p : Profile) (l : ℕ) (ss : List Symbol) → Option (Way (form (in_profile p k) l ∷ ss))
+  abbrev pub way_form : ℕ → (k : Kind) (p : Profile) (l : ℕ) (ss : List Symbol)
+      → Option (Way (form (in_profile p k) l ∷ ss))
   way_form zero k p l ss = None
   way_form (suc n) number p l ss = numeral_way t.tok p l ss
   way_form (suc n) k p l ss =
@@ -119,7 +126,10 @@ way_one t (form f l ∷ ss) = elim (way_form t 9 f.kind f.profile l ss) [
   | Some w ↦ Some w
   | None ↦ elim (left_out (productions f)) [
     | None ↦ None
-    | Some v ↦ elim (way_one t ss) [ None ↦ None | Some w ↦ Some (record { left = w.left; turn = λ vs. (v, w.turn vs) }) ]
+    | Some v ↦ elim (way_one t ss) [
+      | None ↦ None
+      | Some w ↦ Some (record { left = w.left; turn = λ vs. (v, w.turn vs) })
+    ]
   ]
 ]
 
@@ -128,7 +138,10 @@ abbrev pub way : List Token → (ss : List Symbol) → Option (Way ss)
 way [] ss = Some (record { left = ss; turn = λ vs. vs })
 way (t ∷ ts) ss = elim (way_one t ss) [
   | None ↦ None
-  | Some w ↦ elim (way ts w.left) [ None ↦ None | Some v ↦ Some (record { left = v.left; turn = λ vs. w.turn (v.turn vs) }) ]
+  | Some w ↦ elim (way ts w.left) [
+    | None ↦ None
+    | Some v ↦ Some (record { left = v.left; turn = λ vs. w.turn (v.turn vs) })
+  ]
 ]
 
 -- the end, where all that is expected may be left out
@@ -144,7 +157,8 @@ way_end (opening_token m l ∷ ss) = None
 
 -- A way that is computed is one that the tokens lead, and so is the end.
 abbrev pub WaysTurn : Type 0
-WaysTurn = (ts : List Token) (ss : List Symbol) → IfSome (way ts ss) (λ w. Turns ss ts w.left w.turn)
+WaysTurn =
+    (ts : List Token) (ss : List Symbol) → IfSome (way ts ss) (λ w. Turns ss ts w.left w.turn)
 
 abbrev pub EndsTurn : Type 0
 EndsTurn = (ss : List Symbol) → IfSome (way_end ss) (λ vs. Turns ss [] [] (λ _. vs))

@@ -26,8 +26,8 @@ circuit_limit = record { bytes = MOST_CIRCUIT_BYTES; fault = Circuit TooLong }
 
 -- ---- circuits
 
--- a circuit that was read: for each line the bit with which it starts, and whether its last bit is of no use; then the
--- gates
+-- a circuit that was read: for each line the bit with which it starts, and whether its last bit is
+-- of no use; then the gates
 pub record ReadCircuit : Type 0 where
   pub constants : List Mark
   pub garbage : List Bool
@@ -42,7 +42,8 @@ marked constants garbage gates =
 abbrev pub line_count : ReadCircuit → ℕ
 line_count circuit = length circuit.constants
 
--- the circuit of gates on so many lines without marks: each starts with any bit, and all last bits are of use
+-- the circuit of gates on so many lines without marks: each starts with any bit, and all last bits
+-- are of use
 abbrev pub unmarked : ℕ → List GateView → ReadCircuit
 unmarked lines gates = marked (replicate lines Free) (replicate lines false) gates
 
@@ -78,7 +79,8 @@ pub record Means (from : Format) (text : List ℕ) (circuit : ReadCircuit) : Typ
 
 -- ---- why they mean nothing
 
--- why a text means no circuit by the meaning of a format: at a line of a `.real` text, at a token of an OpenQASM text
+-- why a text means no circuit by the meaning of a format: at a line of a `.real` text, at a token
+-- of an OpenQASM text
 abbrev pub IsRefusalIn : Format → List ℕ → CircuitRefusal → Type 0
 IsRefusalIn from text TooLong = ⊥
 IsRefusalIn Real text (Line number) = real.IsTextFault text (reals.Line number)

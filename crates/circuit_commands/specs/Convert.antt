@@ -1,4 +1,5 @@
--- `convert`: the file of the narrow gates in place of a circuit's gates, on its lines or on one more.
+-- `convert`: the file of the narrow gates in place of a circuit's gates, on its lines or on one
+-- more.
 use Rattle.std.specs.Prelude.{◌≡◌, ℕ, ◌+◌, ◌<◌, Bool, true, false, Result, Ok, Err, List, [], ◌∷◌, ◌++◌, length, Some}
 use Rattle.command_answers.specs.Outcomes.{Promise, exact_promise}
 use Rattle.mct_circuit.specs.Gates.{GateView, AreNarrow, line_map}
@@ -23,14 +24,16 @@ pub record WantsLine (most : ℕ) (circuit : ReadCircuit) : Type 0 where
   pub gate : ℕ
   pub none : WantsIdle (line_count circuit) most circuit.gates gate
 
--- what the split comes to on one line more, where the circuit's own lines are too few and there is room for one
+-- what the split comes to on one line more, where the circuit's own lines are too few and there is
+-- room for one
 pub record HasWiderSplit (most : ℕ) (circuit : ReadCircuit)
     (answer : Result (List GateView) SplitFault) : Type 0 where
   pub wants : WantsLine most circuit
   pub room : line_count circuit < MOST_LINES
   pub split : IsSplit (line_count circuit + 1) most circuit.gates answer
 
--- what the split comes to on the circuit's own lines, or exactly where a gate wants an idle line, on one more
+-- what the split comes to on the circuit's own lines, or exactly where a gate wants an idle line,
+-- on one more
 abbrev pub HasSplit : (most : ℕ) → ReadCircuit → (added : Bool)
     → Result (List GateView) SplitFault → Type 0
 HasSplit most circuit false answer = IsSplit (line_count circuit) most circuit.gates answer
@@ -79,8 +82,8 @@ abbrev pub said_in : Format → ReadCircuit → ReadCircuit
 said_in Real circuit = circuit
 said_in Qasm circuit = unmarked (line_count circuit) circuit.gates
 
--- These are the lines of the file of these gates in place of a circuit's, and by the meaning of the format they mean
--- them. The gates are narrow, and do to the circuit's lines what its own do.
+-- These are the lines of the file of these gates in place of a circuit's, and by the meaning of the
+-- format they mean them. The gates are narrow, and do to the circuit's lines what its own do.
 pub record IsFileOf (to : Format) (circuit : ReadCircuit) (added : Bool) (gates : List GateView)
     (written : List ℕ) : Type 0 where
   pub lines : written ≡ file_text to (converted circuit added gates) added

@@ -13,8 +13,8 @@ IsCircuitFault from text (Circuit refusal) = IsCircuitRefusal from text refusal
 IsCircuitFault from text (Memory _) = Unit {0}
 IsCircuitFault from text _ = ⊥
 
--- why words give no bits: this word is the first that is no input of the circuit, or there was no memory left, which is
--- asked for only where each word is an input
+-- why words give no bits: this word is the first that is no input of the circuit, or there was no
+-- memory left, which is asked for only where each word is an input
 abbrev pub IsWordsFault : ReadCircuit → List (List ℕ) → Fault → Type 0
 IsWordsFault circuit words (BadBits number) = IsFirstUnfit circuit words number
 IsWordsFault circuit words (Memory _) = AreInputs circuit words

@@ -22,7 +22,8 @@ is_free One = false
 abbrev pub free_lines : List Mark → ℕ
 free_lines marks = count_by is_free marks
 
--- the bits with which the lines start: those of the word in order of the free lines, and else by the mark
+-- the bits with which the lines start: those of the word in order of the free lines, and else by
+-- the mark
 abbrev pub started : List Mark → List Bool → List Bool
 started [] bits = []
 started (Zero ∷ marks) bits = false ∷ started marks bits
@@ -50,7 +51,8 @@ AreInputs circuit words = AllByRecursion (IsInputWord (free_lines circuit.consta
 abbrev pub runs_text : ReadCircuit → List (List ℕ) → List ℕ
 runs_text circuit words = flat_map (λ (word : List ℕ). bits_text (given_by circuit word)) words
 
--- the text means a circuit, each word is an input of it, and these are the bits that it gives, a line for each word
+-- the text means a circuit, each word is an input of it, and these are the bits that it gives, a
+-- line for each word
 pub record IsRun (from : Format) (words : List (List ℕ)) (text written : List ℕ)
     : Type 0 where
   pub circuit : ReadCircuit

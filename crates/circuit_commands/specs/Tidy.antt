@@ -8,8 +8,8 @@ use Rattle.circuit_commands.specs.declared.limits.TheConstants.{MOST_TIDIED_GATE
 use Rattle.circuit_commands.specs.Circuits.{ReadCircuit, line_count}
 use Rattle.circuit_commands.specs.Convert.{HasSplit, IsNarrowFile, added_lines, promise_within}
 
--- These gates are tidied from the split list of a circuit: no pair of them cancels, no block is longer than its
--- elimination, and they are at most as many, with the line map of the list.
+-- These gates are tidied from the split list of a circuit: no pair of them cancels, no block is
+-- longer than its elimination, and they are at most as many, with the line map of the list.
 pub record IsTidiedFrom (circuit : ReadCircuit) (added : Bool) (gates : List GateView)
     : Type 0 where
   pub before : List GateView

@@ -20,10 +20,9 @@ use Rattle.flip_lists.specs.declared.flip.Controls.{Controls}
 use Rattle.flip_lists.specs.declared.flip.Controls.TheVariants.{Zero, One, Two}
 use Rattle.flip_lists.specs.declared.flip.Flip.{Flip}
 use Rattle.circuit_tidy.specs.Blocks.{AreBlocks, EndsBefore, IsBlock, IsNoLonger, addition_of, all_walked, block_taken, cx, elimination_of}
-use Rattle.flip_lists.specs.Flips.{is_cx, is_one}
 use Rattle.circuit_tidy.specs.Blocks.{one_line, passed_over, touched}
 use Rattle.circuit_tidy.specs.Elimination.{eliminated}
-use Rattle.flip_lists.specs.Flips.{controls_of, gate_of, lines_in, touches}
+use Rattle.flip_lists.specs.Flips.{controls_of, gate_of, is_cx, is_one, lines_in, touches}
 use Rattle.circuit_tidy.specs.inside.BitRows.{IsCxOn}
 use Rattle.circuit_tidy.specs.inside.Walking.{AreOnLines, AreShort, AreTouched, HaveShortBlocks, IsFirstCx, IsLonger, IsPassed, IsBlockOf, StopsBefore, takes}
 use Rattle.circuit_tidy.specs.inside.Walking.{with_line, with_lines_of}

@@ -24,9 +24,8 @@ use Rattle.flip_lists.specs.declared.flip.Controls.{Controls}
 use Rattle.flip_lists.specs.declared.flip.Controls.TheVariants.{Zero, One, Two}
 use Rattle.flip_lists.specs.declared.flip.Flip.{Flip}
 use Rattle.circuit_tidy.specs.Blocks.{IsBlock, addition_of, cx, elimination_of, one_line, touched}
-use Rattle.flip_lists.specs.Flips.{is_cx, is_one}
 use Rattle.circuit_tidy.specs.Elimination.{eliminated}
-use Rattle.flip_lists.specs.Flips.{controls_of, gate_of, gates_of, lines_in, touches}
+use Rattle.flip_lists.specs.Flips.{controls_of, gate_of, gates_of, is_cx, is_one, lines_in, touches}
 use Rattle.circuit_tidy.specs.Pairs.{HasPair}
 use Rattle.circuit_tidy.specs.Tidied.{IsTidied}
 use Rattle.flip_lists.specs.Settling.{with_flips}

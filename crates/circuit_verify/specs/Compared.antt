@@ -1,4 +1,5 @@
--- A circuit beside the settled graph that it is to compute, and what is known of both before they are compared.
+-- A circuit beside the settled graph that it is to compute, and what is known of both before they
+-- are compared.
 use Rattle.std.specs.Prelude.{◌≡◌, ℕ, ◌<◌, ◌≤◌, ◌^◌, List, sum}
 use Rattle.revs_tape.specs.Tapes.{AreWidths}
 use Rattle.claim_check.specs.Settled.{SettledView, IsSettled}

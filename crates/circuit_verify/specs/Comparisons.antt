@@ -15,8 +15,8 @@ use Rattle.circuit_plans.specs.Plans.{AddsOutputs, added}
 
 -- ---- programs
 
--- A program by its functions: the widths of its parameters, its steps and its outputs, each by its bit on an input. The
--- steps are the nodes of a settled graph, or the writes of a tape.
+-- A program by its functions: the widths of its parameters, its steps and its outputs, each by its
+-- bit on an input. The steps are the nodes of a settled graph, or the writes of a tape.
 pub record Specification : Type 0 where
   pub params : List ℕ
   pub steps : ℕ
@@ -42,20 +42,22 @@ of_tape t = record {
   value = outputs_on t;
 }
 
--- a circuit, the program that it is to compute, what its output lines may hold before the gates, and how many of its
--- lines are borrowed
+-- a circuit, the program that it is to compute, what its output lines may hold before the gates,
+-- and how many of its lines are borrowed
 pub record Comparison : Type 0 where
   pub program : Specification
   pub circuit : CircuitView
   pub start : Start
   pub borrow : ℕ
 
--- a program beside a circuit, whose output lines may hold this at the start, with so many borrowed lines
+-- a program beside a circuit, whose output lines may hold this at the start, with so many borrowed
+-- lines
 abbrev pub beside : Specification → CircuitView → Start → ℕ → Comparison
 beside program circuit start borrow =
     record { program = program; circuit = circuit; start = start; borrow = borrow }
 
--- ---- lines: those of the inputs come first, then those of the outputs, the work lines and the borrowed ones
+-- ---- lines: those of the inputs come first, then those of the outputs, the work lines and the
+-- borrowed ones
 
 abbrev pub inputs_in : Comparison → ℕ
 inputs_in q = sum q.program.params
@@ -75,13 +77,14 @@ roles_in q = record {
   borrowed = q.borrow;
 }
 
--- on every input, whatever the output lines hold that they may, and whatever the borrowed lines hold, the circuit adds the
--- program's outputs to the output lines, and leaves all other lines as they were, the work lines at 0
+-- on every input, whatever the output lines hold that they may, and whatever the borrowed lines
+-- hold, the circuit adds the program's outputs to the output lines, and leaves all other lines as
+-- they were, the work lines at 0
 abbrev pub Agrees : Comparison → Type 0
 Agrees q = AddsOutputs q.start (roles_in q) q.circuit.gates q.program.value
 
--- ---- variables: the inputs in their order, then the output lines where they may hold any bits, and then the borrowed
--- ---- lines
+-- ---- variables: the inputs in their order, then the output lines where they may hold any bits,
+-- and then the borrowed ---- lines
 
 -- how many of so many output lines have a variable
 abbrev pub output_variables : Start → ℕ → ℕ
@@ -95,8 +98,8 @@ variables_behind q = output_variables q.start q.program.outputs + q.borrow
 abbrev pub variables_in : Comparison → ℕ
 variables_in q = inputs_in q + variables_behind q
 
--- bits for the inputs, parameter by parameter, then for the output lines that have variables, and then for the borrowed
--- lines
+-- bits for the inputs, parameter by parameter, then for the output lines that have variables, and
+-- then for the borrowed lines
 abbrev pub AreBitsFor : Comparison → List Bool → Type 0
 AreBitsFor q bits = length bits ≡ variables_in q
 

@@ -1,5 +1,5 @@
--- Line functions: what the steps of a program and the lines of a circuit hold, as functions of the variables, and how many
--- there are.
+-- Line functions: what the steps of a program and the lines of a circuit hold, as functions of the
+-- variables, and how many there are.
 use Rattle.std.specs.Prelude.{◌≡◌, ℕ, ◌+◌, ◌<◌, ◌≤◌, Bool, List, length, take}
 use Rattle.std.specs.List.{AllByRecursion}
 use Rattle.list_facts.specs.Bits.{bit_of}
@@ -9,9 +9,9 @@ use Rattle.mct_circuit.specs.Gates.{line_map}
 use Rattle.circuit_verify.specs.Comparisons.{Comparison, AreBitsFor, variables_in, input_bits, order_in, start_on}
 use Rattle.circuit_verify.specs.Comparisons.{wanted_on}
 
--- what holds a bit: a step of the program, a line after so many of the gates, or a line as it should be behind all of
--- them; after none of them an input line holds its input, and an output line that has a variable and a borrowed line what
--- they came with
+-- what holds a bit: a step of the program, a line after so many of the gates, or a line as it
+-- should be behind all of them; after none of them an input line holds its input, and an output
+-- line that has a variable and a borrowed line what they came with
 pub data Holder : Type 0 where
   Step : (step : ℕ) → Holder
   Line : (gates line : ℕ) → Holder

@@ -41,8 +41,8 @@ IsRightOn q line bits =
 abbrev pub IsRight : Comparison → ℕ → Type 0
 IsRight q line = (bits : List Bool) → AreBitsFor q bits → IsRightOn q line bits
 
--- This line, counted from 0, is the first that is not always right, and these bits are the least on which it is not, in
--- the order of the variables and false before true.
+-- This line, counted from 0, is the first that is not always right, and these bits are the least on
+-- which it is not, in the order of the variables and false before true.
 pub record DiffersFirst (q : Comparison) (line : ℕ) (bits : List Bool) : Type 0 where
   pub in_range : line < q.circuit.lines
   pub before : (earlier : ℕ) → earlier < line → IsRight q earlier
@@ -73,7 +73,8 @@ verify_fault (dd.Memory _) = faults.Memory _
 
 -- ---- laws
 
--- a circuit that is verified differs nowhere and has no wide gate, and what is named is the only one
+-- a circuit that is verified differs nowhere and has no wide gate, and what is named is the only
+-- one
 pub record EndsInOneWay (q : Comparison) : Type 0 where
   pub no_gate : (gate : ℕ) → AreNarrow q.circuit.gates → IsFirstWide q.circuit.gates gate → ⊥
   pub one_gate : (gate other : ℕ) → IsFirstWide q.circuit.gates gate

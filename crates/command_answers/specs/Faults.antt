@@ -136,7 +136,8 @@ line_of Read = codes "revc: read fault\n"
 line_of Write = codes "revc: write fault\n"
 line_of (Memory _) = codes "revc: out of memory\n"
 
--- the sink received the whole line, and holds nothing back, or a prefix of it where its count of faults rose
+-- the sink received the whole line, and holds nothing back, or a prefix of it where its count of
+-- faults rose
 abbrev pub Receives : Held → Held → ℕ → ℕ → List ℕ → Type 0
 Receives old new before now line =
     (Took old new line × new.flushed) ⊎ (Rose before now × TookFront old new line)

@@ -35,7 +35,8 @@ IsNoBudget (Lines need limit) = ⊥
 IsNoBudget (Gates limit) = ⊥
 IsNoBudget fault = Unit {0}
 
--- the promise of a command that reads such a text, whose causes have these statuses and are all exact
+-- the promise of a command that reads such a text, whose causes have these statuses and are all
+-- exact
 abbrev pub exact_promise : (reads : Option TextLimit) → (statuses : List ℕ)
     → (Gives : OrderView → List ℕ → List ℕ → Type 0)
     → (IsCause : OrderView → List ℕ → Fault → Type 0)

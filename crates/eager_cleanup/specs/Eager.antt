@@ -13,8 +13,8 @@ use Rattle.held_nodes.specs.Plans.{HasPortLines, wanted_lines}
 abbrev pub ports_of : SettledView → ℕ
 ports_of s = s.inputs + length s.outputs
 
--- so many lines, of which some are borrowed, and gates are within the eager numbers of all measures within which the
--- settled graph is
+-- so many lines, of which some are borrowed, and gates are within the eager numbers of all measures
+-- within which the settled graph is
 pub record AreWithinEager (s : SettledView) (borrowed lines gates : ℕ) : Type 0 where
   pub few_lines : (m : Measures) → IsWithin s m → lines ≤ eager_lines m borrowed
   pub few_gates : (m : Measures) → IsWithin s m → gates ≤ eager_gates m
@@ -31,7 +31,8 @@ pub record HasFewLines (s : SettledView) (b : BudgetView) : Type 0 where
 pub record HasFewGates (s : SettledView) (b : BudgetView) : Type 0 where
   pub few : (m : Measures) → IsWithin s m → b.gates < eager_gates m
 
--- why there is no eager plan; memory is wanted only where the budget has the lines of the inputs and outputs
+-- why there is no eager plan; memory is wanted only where the budget has the lines of the inputs
+-- and outputs
 abbrev pub IsEagerFault : SettledView → BudgetView → PlanFault → Type 0
 IsEagerFault s b (Lines need) = HasFewLines s b × (need ≡ wanted_lines (ports_of s) b)
 IsEagerFault s b Gates = HasFewGates s b

@@ -1,4 +1,5 @@
--- Flips under at most two controls: their gates, which two are alike, and which are free of each other.
+-- Flips under at most two controls: their gates, which two are alike, and which are free of each
+-- other.
 use Rattle.std.specs.Prelude.{ℕ, Bool, true, false, not, ◌==◌, ◌&&◌, ◌||◌, List, [], ◌∷◌, map}
 use Rattle.std.specs.List.{list_all}
 use Rattle.mct_circuit.specs.Gates.{GateView, flip_of}

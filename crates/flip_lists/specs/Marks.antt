@@ -3,8 +3,7 @@ use Rattle.std.specs.Prelude.{ℕ, Bool, not, ◌==◌, ◌&&◌, ◌||◌, List
 use Rattle.std.specs.List.{list_any}
 use Rattle.flip_lists.specs.declared.flip.Flip.{Flip}
 use Rattle.flip_lists.specs.declared.marks.TheConstants.{CONTROL, FREED_CONTROL, FREED_TARGET, NEW, OPEN, TARGET}
-use Rattle.flip_lists.specs.Flips.{is_cx}
-use Rattle.flip_lists.specs.Flips.{controls_of}
+use Rattle.flip_lists.specs.Flips.{controls_of, is_cx}
 
 -- the word has the mark
 abbrev pub has : ℕ → ℕ → Bool

@@ -1,5 +1,5 @@
--- Lists of flips whose latest comes first, as one more is put in: it goes out with the latest flip like it that only free
--- ones are behind, or stays.
+-- Lists of flips whose latest comes first, as one more is put in: it goes out with the latest flip
+-- like it that only free ones are behind, or stays.
 use Rattle.std.specs.Prelude.{◌≡◌, if◌then◌else◌, Option, Some, None, List, [], ◌∷◌, ⊤}
 use Rattle.flip_lists.specs.declared.flip.Flip.{Flip}
 use Rattle.flip_lists.specs.Flips.{are_alike, are_free}

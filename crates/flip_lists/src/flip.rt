@@ -1,8 +1,8 @@
 // Flips under at most two controls.
 ghost use Rattle.std.specs.Prelude.{◌≡◌};
 ghost use Rattle.mct_circuit.specs.Sizes.{has_line};
-ghost use Rattle.flip_lists.specs.Flips.{is_cx};
-ghost use Rattle.flip_lists.specs.Flips.{are_alike, are_free, are_among, controls_of, lines_in};
+ghost use Rattle.flip_lists.specs.Flips.{are_alike, are_among, are_free, controls_of, is_cx};
+ghost use Rattle.flip_lists.specs.Flips.{lines_in};
 
 /// The controls of a flip, none or one or two lines.
 #[derive(Clone, Copy)]

@@ -149,8 +149,8 @@ impl Marks {
         self.passed = behind;
     }
 
-    /// The flip goes, with the one at a place, behind flips that were passed over and now are walked
-    /// over.
+    /// The flip goes, with the one at a place, behind flips that were passed over and are walked
+    /// over now.
     pub fn free_behind(&mut self, flip: Flip, place: usize, walked: &[Flip]) -> Result<(), Memory> {
         if place < self.passed {
             self.passed -= 1;

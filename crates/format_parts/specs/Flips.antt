@@ -7,7 +7,8 @@ use Rattle.mct_circuit.specs.declared.gate.Op.{Op}
 use Rattle.mct_circuit.specs.declared.gate.Op.TheVariants.{Flip, Swap}
 use Rattle.mct_circuit.specs.Gates.{GateView, AreGatesOn, AreNarrow}
 
--- the word of a gate by the number of its controls, a control by its line, and the target by its line
+-- the word of a gate by the number of its controls, a control by its line, and the target by its
+-- line
 pub record FlipTexts : Type 0 where
   pub word : ℕ → List ℕ
   pub control : ℕ → List ℕ

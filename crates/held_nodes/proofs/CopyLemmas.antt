@@ -124,7 +124,8 @@ output_bit input done rest content b target e =
     ap (λ (bits : List Bool). bit_of bits target) (around input done rest content b)
     ∙ get_or_at (input ++ done) b (rest ++ content) false target place
 
-copied_one : (s : SumGraphView) (lines : List (Option ℕ)) (work target : ℕ) (gates : List GateView) (input done rest content : List Bool) (b : Bool) (x : SumView)
+copied_one : (s : SumGraphView) (lines : List (Option ℕ)) (work target : ℕ) (gates : List GateView) (input done rest content : List Bool) (b : Bool)
+    (x : SumView)
     → length input ≡ s.inputs → length (done ++ b ∷ rest) ≡ length s.outputs → IsContent s lines work gates input content
     → target ≡ length input + length done → s.inputs ≤ target → target < first_work s → AreOnDifferent lines
     → ((j own : ℕ) → held_line lines j ≡ Some own → own < work)

@@ -1,4 +1,5 @@
--- Forward parts: the nodes of a graph that are held on work lines, and the gates that put their values there.
+-- Forward parts: the nodes of a graph that are held on work lines, and the gates that put their
+-- values there.
 use Rattle.std.specs.Prelude.{◌≡◌, ℕ, ◌+◌, ◌-◌, ◌*◌, ◌<◌, ◌≤◌, ◌==◌, Bool, false, true, List, ◌++◌, length, slice_index_or, Option, Some, None, is_some, sum_by}
 use Rattle.std.specs.Prelude.{count_by}
 use Rattle.std.specs.List.{AllByRecursion, list_any}
@@ -11,8 +12,8 @@ use Rattle.circuit_plans.specs.Plans.{BudgetView}
 use Rattle.mct_circuit.specs.Gates.{GateView, line_map}
 use Rattle.mct_circuit.specs.Sizes.{weight_of}
 
--- a forward part: the graph, the budget, the gates so far, for each node None or its work line, and the greatest
--- number of nodes that were held at one time
+-- a forward part: the graph, the budget, the gates so far, for each node None or its work line, and
+-- the greatest number of nodes that were held at one time
 pub record ForwardView : Type 0 where
   pub graph : SumGraphView
   pub budget : BudgetView
@@ -63,9 +64,9 @@ pub record IsLeastFree (lines : List (Option ℕ)) (line : ℕ) : Type 0 where
 
 -- ---- the uncomputation invariant
 
--- The content of the work lines on an input: each held node's value stands on its line, every other work line holds 0,
--- and whatever the output lines hold, the gates take the input, these bits and zeros to the input, these bits and the
--- content.
+-- The content of the work lines on an input: each held node's value stands on its line, every other
+-- work line holds 0, and whatever the output lines hold, the gates take the input, these bits and
+-- zeros to the input, these bits and the content.
 pub record IsContent (s : SumGraphView) (lines : List (Option ℕ)) (work : ℕ)
     (gates : List GateView) (input content : List Bool) : Type 0 where
   pub long : length content ≡ work
@@ -86,9 +87,9 @@ pub record HoldsNodes (s : SumGraphView) (lines : List (Option ℕ)) (work : ℕ
     (gates : List GateView) : Type 0 where
   pub on : (input : List Bool) → length input ≡ s.inputs → HoldsOn s lines work gates input
 
--- What a forward part keeps: its gates hold the nodes, different nodes on different lines; it has as many work lines as
--- the most nodes held at one time, and lines and gates are within the budget; each gate is a flip that has at most two
--- controls or leaves a line idle.
+-- What a forward part keeps: its gates hold the nodes, different nodes on different lines; it has
+-- as many work lines as the most nodes held at one time, and lines and gates are within the budget;
+-- each gate is a flip that has at most two controls or leaves a line idle.
 pub record IsForward (f : ForwardView) : Type 0 where
   pub sums : IsSumGraph f.graph
   pub nodes : length f.lines ≡ length f.graph.nodes

@@ -86,8 +86,8 @@ pub record IsReadyNode (s : SumGraphView) (lines : List (Option ℕ)) (k : ℕ) 
   pub is : slice_get s.nodes k ≡ Some node
   pub ready : AllByRecursion (IsReadyBase lines) (bases_of node)
 
--- the work line on which a toggle acts, and the node's line afterwards: a node that is held is toggled on its own line,
--- which it gives back; one that is not held takes the least free line
+-- the work line on which a toggle acts, and the node's line afterwards: a node that is held is
+-- toggled on its own line, which it gives back; one that is not held takes the least free line
 abbrev pub TakesLine : List (Option ℕ) → Option ℕ → ℕ → Option ℕ → Type 0
 TakesLine lines (Some own) line after = (line ≡ own) × (after ≡ None)
 TakesLine lines None line after = IsLeastFree lines line × (after ≡ Some line)

@@ -18,8 +18,8 @@ pub record IsInBudget (b : BudgetView) (p : PlannedView) : Type 0 where
   pub lines : p.circuit.lines + b.borrow ≤ b.lines
   pub gates : weight_in p.circuit.gates ≤ b.gates
 
--- A plan of narrow gates within a budget: it has the ports of the graph, and adds its outputs to whatever the output lines
--- may hold.
+-- A plan of narrow gates within a budget: it has the ports of the graph, and adds its outputs to
+-- whatever the output lines may hold.
 pub record IsNarrowPlan (start : Start) (s : SumGraphView) (b : BudgetView) (p : PlannedView)
     : Type 0 where
   pub ports : HasPorts s p
@@ -31,8 +31,8 @@ pub record IsNarrowPlan (start : Start) (s : SumGraphView) (b : BudgetView) (p :
 abbrev pub HasPortLines : ℕ → BudgetView → Type 0
 HasPortLines ports b = ports + b.borrow ≤ b.lines
 
--- how many lines a refused plan wants: one for each input, output and borrowed bit where that passes the budget, and
--- otherwise one more than the budget has
+-- how many lines a refused plan wants: one for each input, output and borrowed bit where that
+-- passes the budget, and otherwise one more than the budget has
 abbrev pub wanted_lines : ℕ → BudgetView → ℕ
 wanted_lines ports b =
     if nat_lt b.lines (ports + b.borrow) then ports + b.borrow else b.lines + 1

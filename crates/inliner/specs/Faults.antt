@@ -11,6 +11,7 @@ IsStuckOnAll params body (faults.Stuck cause at) =
     (input : List Bool) → IsInput params input → IsStuck params body input cause at
 IsStuckOnAll params body (faults.Memory _) = ⊤
 
--- The run of a program is stuck as the fault says, on every input; want of memory says nothing of the run.
+-- The run of a program is stuck as the fault says, on every input; want of memory says nothing of
+-- the run.
 pub record IsRefused (params : List Param) (body : Tree) (fault : RunFault) : Type 0 where
   pub stuck : IsStuckOnAll params body fault

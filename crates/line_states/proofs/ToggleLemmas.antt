@@ -164,6 +164,7 @@ copy_moves s from to low also apart_lines = record {
       let a = xor_by f (set_at s.sets from) in
       let b = xor_by f (set_at s.sets to) in
       flip_by_one from to bits
-      ∙ ap (set bits to) (ap₂ xor (bit_at f s.sets from low) (bit_at f s.sets to also) ∙ xor_swap a b ∙ sym (value-apart f (set_at s.sets to) (set_at s.sets from)))
+      ∙ ap (set bits to) (ap₂ xor (bit_at f s.sets from low) (bit_at f s.sets to also) ∙ xor_swap a b ∙ sym
+      (value-apart f (set_at s.sets to) (set_at s.sets from)))
       ∙ sym (map-set (xor_by f) s.sets to (apart (set_at s.sets to) (set_at s.sets from))));
 }

@@ -1,4 +1,5 @@
--- Lines as sets of bits: behind the gates so far, each line holds the exclusive or of the bits of its set.
+-- Lines as sets of bits: behind the gates so far, each line holds the exclusive or of the bits of
+-- its set.
 use Rattle.std.specs.Prelude.{◌≡◌, ℕ, ◌+◌, ◌-◌, ◌≤◌, ◌==◌, Bool, false, not, ◌&&◌, List, [], ◌∷◌, ◌++◌, length, map, nat_le, nat_lt, slice_index_or, slice_set, take, drop, replicate}
 use Rattle.std.specs.List.{AllByRecursion}
 use Rattle.list_facts.specs.Bits.{bit_of, zeros}
@@ -38,14 +39,15 @@ set_value g input set = xor_by (bit_value g input) set
 
 -- ---- what is kept
 
--- on every input, with zeros on the other lines, each line's bit behind the gates is the value of its set
+-- on every input, with zeros on the other lines, each line's bit behind the gates is the value of
+-- its set
 pub record HoldsSets (s : StatesView) : Type 0 where
   pub on : (input : List Bool) → length input ≡ s.graph.inputs
       → line_map s.gates (input ++ zeros (length s.sets - s.graph.inputs))
       ≡ map (set_value s.graph input) s.sets
 
--- The gates hold the sets, and are narrow; there is a line for each input and output, and lines and gates are within
--- the budget.
+-- The gates hold the sets, and are narrow; there is a line for each input and output, and lines and
+-- gates are within the budget.
 pub record AreStates (s : StatesView) : Type 0 where
   pub graph : IsSumGraph s.graph
   pub wide : first_work s.graph ≤ length s.sets
@@ -117,7 +119,8 @@ sum_at g node = slice_index_or (all_sums g) node no_sum
 abbrev pub node_gates : StatesView → ℕ → ℕ → List PairView → List GateView
 node_gates s node onto pairs = toggle_gates onto pairs (sum_at s.graph node).one
 
--- the pairs are the products of the node's sum, on other lines than the target, and the budget has the gates
+-- the pairs are the products of the node's sum, on other lines than the target, and the budget has
+-- the gates
 abbrev pub can_toggle : StatesView → ℕ → ℕ → List PairView → Bool
 can_toggle s node onto pairs =
     nat_lt node (length (all_sums s.graph))

@@ -7,7 +7,8 @@ use Rattle.name_scope.specs.declared.binding.ScopeFault.{ScopeFault}
 use Rattle.name_scope.specs.declared.binding.ScopeFault.TheVariants as fault
 use Rattle.name_scope.specs.declared.program.Scoped.{Scoped}
 
--- The program with its names bound, or why the scope rule fails. Only want of memory comes from elsewhere.
+-- The program with its names bound, or why the scope rule fails. Only want of memory comes from
+-- elsewhere.
 abbrev pub Answers : Result Scoped ScopeFault → List Param → ScopeVerdict → Type 0
 Answers (Ok scoped) params verdict = (scoped.program.params.items ≡ params) ×
     (verdict ≡ bound_as (tree_of scoped.program.body))

@@ -11,7 +11,8 @@ HaveOwnNames params =
     (i j : ℕ) (p q : Param) → i < j → slice_get params i ≡ Some p → slice_get params j ≡ Some q
     → p.name.text ≢ q.name.text
 
--- The parameter at this place has the name of one before it, and those before it have names of their own.
+-- The parameter at this place has the name of one before it, and those before it have names of
+-- their own.
 pub record IsFirstRepeated (params : List Param) (at : Place) : Type 0 where
   pub front : List Param
   pub repeated : Param

@@ -7,7 +7,8 @@ use Rattle.circuit_plans.specs.declared.plan.PlanFault.{PlanFault}
 use Rattle.circuit_plans.specs.Plans.{BudgetView}
 use Rattle.eager_cleanup.specs.Eager.{ports_of}
 
--- what blocks of a settled graph count; one block of all nodes takes four gates for each, and one for each output
+-- what blocks of a settled graph count; one block of all nodes takes four gates for each, and one
+-- for each output
 abbrev pub extent_of : SettledView → Extent
 extent_of s = record {
   is_within = IsWithin s;

@@ -80,8 +80,8 @@ pub record IsBelowFineLines (b : BudgetView) (m : Measures) : Type 0 where
 pub record IsBelowFineGates (b : BudgetView) (m : Measures) : Type 0 where
   pub below : (levels : ℕ) → IsLevels 1 m.steps levels → b.gates < fine_gates m levels
 
--- the budget has fewer lines than the eager number, than a line for each step under `Lean` and `Compact`, or than the
--- fine number where pebbling of the plain graph is tried too
+-- the budget has fewer lines than the eager number, than a line for each step under `Lean` and
+-- `Compact`, or than the fine number where pebbling of the plain graph is tried too
 abbrev pub HasFewLines : How → BudgetView → Measures → Type 0
 HasFewLines Auto b m = IsBelowFineLines b m
 HasFewLines Compact b m = b.lines < lean_lines m b.borrow
@@ -89,8 +89,8 @@ HasFewLines Eager b m = b.lines < eager_lines m b.borrow
 HasFewLines Lean b m = b.lines < lean_lines m b.borrow
 HasFewLines Pebble b m = IsBelowFineLines b m
 
--- the same of gates; under those two pebbling by smaller blocks saves lines for gates, and the row tells all that is
--- known
+-- the same of gates; under those two pebbling by smaller blocks saves lines for gates, and the row
+-- tells all that is known
 abbrev pub HasFewGates : How → BudgetView → Measures → Type 0
 HasFewGates Auto b m = IsBelowFineGates b m
 HasFewGates Compact b m = ¬ LeanFits b m
@@ -98,7 +98,8 @@ HasFewGates Eager b m = b.gates < eager_gates m
 HasFewGates Lean b m = ¬ LeanFits b m
 HasFewGates Pebble b m = IsBelowFineGates b m
 
--- within all measures within which the settled graph is, the budget has too few lines, and no allowed row fits
+-- within all measures within which the settled graph is, the budget has too few lines, and no
+-- allowed row fits
 pub record LinesAreFew (how : How) (s : SettledView) (b : BudgetView) : Type 0 where
   pub few : (m : Measures) → IsWithin s m → HasFewLines how b m
   pub no_row : (m : Measures) → IsWithin s m → ¬ SomeRowFits how b m
@@ -108,7 +109,8 @@ pub record GatesAreFew (how : How) (s : SettledView) (b : BudgetView) : Type 0 w
   pub few : (m : Measures) → IsWithin s m → HasFewGates how b m
   pub no_row : (m : Measures) → IsWithin s m → ¬ SomeRowFits how b m
 
--- why no plan is laid; memory is wanted only where the budget has the lines of the inputs and outputs
+-- why no plan is laid; memory is wanted only where the budget has the lines of the inputs and
+-- outputs
 abbrev pub IsChoiceFault : How → SettledView → BudgetView → PlanFault → Type 0
 IsChoiceFault how s b (Lines need) = LinesAreFew how s b × (need ≡ wanted_lines (ports_of s) b)
 IsChoiceFault how s b Gates = GatesAreFew how s b
@@ -116,8 +118,8 @@ IsChoiceFault how s b (Memory _) = HasPortLines (ports_of s) b
 
 -- ---- what is laid
 
--- The plan is one of the settled graph: it has its inputs and outputs and the borrowed lines of the budget, is within
--- the budget, and adds the graph's outputs to whatever the output lines may hold.
+-- The plan is one of the settled graph: it has its inputs and outputs and the borrowed lines of the
+-- budget, is within the budget, and adds the graph's outputs to whatever the output lines may hold.
 pub record IsLaidFor (start : Start) (s : SettledView) (b : BudgetView) (laid : LaidView)
     : Type 0 where
   pub inputs : laid.inputs ≡ s.inputs
@@ -134,16 +136,18 @@ abbrev pub IsEager : SettledView → BudgetView → LaidView → Type 0
 IsEager s b laid =
     AreWithinEager s b.borrow laid.circuit.lines (length laid.circuit.gates)
 
--- they are within the numbers of a block, where one block has all nodes or no row of larger blocks fits
+-- they are within the numbers of a block, where one block has all nodes or no row of larger blocks
+-- fits
 pub record IsPebbling (s : SettledView) (b : BudgetView) (laid : LaidView) : Type 0 where
   pub power : ℕ
   pub within : AreWithinBlock (extent_of s) (2 ^ power) b.borrow laid.circuit.lines
       (length laid.circuit.gates)
   pub first : (length s.nodes ≤ 2 ^ power) ⊎ NoLargerFits s (2 ^ suc power) b
 
--- A plan of a lean graph, of narrow gates: it has at most a line for each input, output, node and borrowed bit of that
--- graph, and so no more than its row; where one block of all nodes fits, few Toffoli gates and gates for that graph; and
--- where the row fits, few for the settled graph, and no more than twice the gates of the row.
+-- A plan of a lean graph, of narrow gates: it has at most a line for each input, output, node and
+-- borrowed bit of that graph, and so no more than its row; where one block of all nodes fits, few
+-- Toffoli gates and gates for that graph; and where the row fits, few for the settled graph, and no
+-- more than twice the gates of the row.
 pub record IsLean (s : SettledView) (b : BudgetView) (laid : LaidView) : Type 0 where
   pub graph : SumGraphView
   pub lean : IsLeanOf s graph
@@ -155,8 +159,9 @@ pub record IsLean (s : SettledView) (b : BudgetView) (laid : LaidView) : Type 0 
       → length laid.circuit.gates ≤ 2 * lean_gates m
   pub few : (m : Measures) → IsWithin s m → LeanFits b m → IsThrifty s laid
 
--- The best of the lean plan and of what planners found, of narrow gates: it is no worse than the lean plan where that
--- fits, and where the lean row fits, it has few Toffoli gates for the settled graph.
+-- The best of the lean plan and of what planners found, of narrow gates: it is no worse than the
+-- lean plan where that fits, and where the lean row fits, it has few Toffoli gates for the settled
+-- graph.
 pub record IsCompact (s : SettledView) (b : BudgetView) (laid : LaidView) : Type 0 where
   pub lean : Result LaidView PlanFault
   pub is_lean : IfOk lean (IsLean s b)
@@ -170,7 +175,8 @@ pub record IsCompact (s : SettledView) (b : BudgetView) (laid : LaidView) : Type
 pub record NoEagerFits (s : SettledView) (b : BudgetView) : Type 0 where
   pub none : (m : Measures) → IsWithin s m → ¬ EagerFits b m
 
--- a plan that the choice allows; pebbling comes only where the eager numbers do not fit, or where it alone is allowed
+-- a plan that the choice allows; pebbling comes only where the eager numbers do not fit, or where
+-- it alone is allowed
 abbrev pub IsChosen : How → SettledView → BudgetView → LaidView → Type 0
 IsChosen Auto s b laid = IsEager s b laid ⊎ (NoEagerFits s b × IsPebbling s b laid)
 IsChosen Compact s b laid = IsCompact s b laid

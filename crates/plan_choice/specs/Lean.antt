@@ -14,7 +14,8 @@ use Rattle.sum_graph.specs.Lone.{GoToOneOutput, ands_beside}
 
 -- ---- refusals
 
--- a line for each node, and what two toggles of each node and one of each output weigh, are within the budget
+-- a line for each node, and what two toggles of each node and one of each output weigh, are within
+-- the budget
 pub record CoveringFits (l : SumGraphView) (b : BudgetView) : Type 0 where
   pub lines : first_work l + length l.nodes + b.borrow ≤ b.lines
   pub gates : plain_weight l ≤ b.gates
@@ -32,13 +33,14 @@ IsLeanFault l block b (Memory _) = IsPebblingFault l block b (Memory _)
 abbrev pub toffoli : LaidView → ℕ
 toffoli laid = (counts_of laid.circuit.gates).ccx
 
--- At most two Toffoli gates for each product of a node and one for each of an output, and no more gates than four toggles
--- of each node and one of each output weigh.
+-- At most two Toffoli gates for each product of a node and one for each of an output, and no more
+-- gates than four toggles of each node and one of each output weigh.
 pub record IsCovering (l : SumGraphView) (laid : LaidView) : Type 0 where
   pub products : toffoli laid ≤ 2 * products_in l.nodes + products_in l.outputs
   pub gates : length laid.circuit.gates ≤ ready_gates l
 
--- At most two Toffoli gates for each AND of the settled graph, and only one for each that goes to one output alone.
+-- At most two Toffoli gates for each AND of the settled graph, and only one for each that goes to
+-- one output alone.
 pub record IsThrifty (s : SettledView) (laid : LaidView) : Type 0 where
   pub all : toffoli laid ≤ 2 * ands_in s.nodes
   pub lone : (lone : ℕ → Bool) → GoToOneOutput s lone
@@ -54,6 +56,7 @@ area laid = laid.circuit.lines * length laid.circuit.gates
 abbrev pub HasNoMoreLines : LaidView → LaidView → Type 0
 HasNoMoreLines p q = (area p < area q) ⊎ ((area p ≡ area q) × (p.circuit.lines ≤ q.circuit.lines))
 
--- fewer Toffoli gates; or as many, and a smaller product of lines and gates; or as many of both and no more lines
+-- fewer Toffoli gates; or as many, and a smaller product of lines and gates; or as many of both and
+-- no more lines
 abbrev pub IsAsCompact : LaidView → LaidView → Type 0
 IsAsCompact p q = (toffoli p < toffoli q) ⊎ ((toffoli p ≡ toffoli q) × HasNoMoreLines p q)

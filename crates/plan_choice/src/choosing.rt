@@ -21,10 +21,10 @@ use sum_graph::SumGraph;
 /// zeros on the work lines and anything on the borrowed lines to the same. An eager plan is within
 /// the eager numbers, a pebbling within those of its block; it is that of the largest block that
 /// fits, and `Auto` takes one only where the eager numbers do not fit. `Lean` takes a plan of the
-/// lean graph, on at most a line for each input, output, node and borrowed bit, and `Compact`, under
-/// which the output lines start at 0, the best of that one and of what planners find there; where
-/// the lean row fits, these have at most two Toffoli gates for each AND of the graph, and one for
-/// each that goes to one output alone.
+/// lean graph, on at most a line for each input, output, node and borrowed bit, and `Compact`,
+/// under which the output lines start at 0, the best of that one and of what planners find there;
+/// where the lean row fits, these have at most two Toffoli gates for each AND of the graph, and one
+/// for each that goes to one output alone.
 ///
 /// # Errors
 ///

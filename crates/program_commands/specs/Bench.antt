@@ -14,8 +14,8 @@ use Rattle.revs_tape.specs.Measures.{HasWidth, inputs_of, outputs_of, writes_of}
 use Rattle.revs_tape.specs.Tapes.{TapeView}
 use Rattle.revc_words.specs.Words.{OrderView}
 
--- these are the numbers of inputs, outputs and writes of a tape and its width, and the numbers of lines and gates of a
--- circuit and its depth
+-- these are the numbers of inputs, outputs and writes of a tape and its width, and the numbers of
+-- lines and gates of a circuit and its depth
 pub record AreSizesOf (tape : TapeView) (roles : Roles) (gates : List GateView)
     (sizes : BenchSizes) : Type 0 where
   pub inputs : sizes.inputs ≡ inputs_of tape
@@ -39,8 +39,8 @@ bench_text sizes =
     ++ ((number_line (codes "writes ") sizes.writes ++ number_line (codes "width ") sizes.width)
     ++ circuit_lines sizes)
 
--- the text of the adder of so many bits has a circuit that the order allows, and these are the lines of the sizes of its
--- tape and of the gates
+-- the text of the adder of so many bits has a circuit that the order allows, and these are the
+-- lines of the sizes of its tape and of the gates
 pub record IsBenched (order : OrderView) (written : List ℕ) : Type 0 where
   pub tape : TapeView
   pub roles : Roles
@@ -54,12 +54,13 @@ pub record IsBenched (order : OrderView) (written : List ℕ) : Type 0 where
 abbrev pub Gives : OrderView → List ℕ → List ℕ → Type 0
 Gives order text written = IsBenched order written
 
--- why nothing is: the circuit of the adder passes a budget; its text is never refused, and no claim stops it
+-- why nothing is: the circuit of the adder passes a budget; its text is never refused, and no claim
+-- stops it
 abbrev pub IsCause : OrderView → List ℕ → Fault → Type 0
 IsCause order text fault = PassesBudget order (adder_text order.number) fault
 
--- where something is, unless memory or a device is wanting: where some row of the budget numbers that the order allows
--- fits the adder
+-- where something is, unless memory or a device is wanting: where some row of the budget numbers
+-- that the order allows fits the adder
 abbrev pub Serves : OrderView → List ℕ → Type 0
 Serves order text = HasFittingRow order (adder_text order.number)
 

@@ -26,7 +26,8 @@ Gives order text written = IsChecked text order.nodes written
 abbrev pub IsCause : OrderView → List ℕ → Fault → Type 0
 IsCause order text fault = StopsSettling text order.nodes fault
 
--- where something is, unless memory or a device is wanting: every claim holds on all inputs, within the nodes
+-- where something is, unless memory or a device is wanting: every claim holds on all inputs, within
+-- the nodes
 abbrev pub Serves : OrderView → List ℕ → Type 0
 Serves order text = (tape : TapeView) × LeavesSettled text order.nodes tape
 

@@ -1,4 +1,5 @@
--- What a clean file is, in each format: what it computes, and what its lines hold before and behind.
+-- What a clean file is, in each format: what it computes, and what its lines hold before and
+-- behind.
 use Rattle.std.specs.Prelude.{◌≡◌, ℕ, Bool, List, length, sum}
 use Rattle.circuit_plans.specs.Plans.{AddsOutput, MayHold, lines_in}
 use Rattle.circuit_plans.specs.declared.roles.Roles.{Roles}
@@ -22,7 +23,8 @@ abbrev pub file_text : Format → Roles → List GateView → List ℕ
 file_text Real roles gates = real.compiled_text roles gates
 file_text Qasm roles gates = qasm.compiled_text roles gates
 
--- on this input, whatever the borrowed lines hold, the gates add the program's output to whatever the output lines may hold
+-- on this input, whatever the borrowed lines hold, the gates add the program's output to whatever
+-- the output lines may hold
 pub record ComputesOn (p : ProgramView) (start : Start) (roles : Roles) (gates : List GateView)
     (input borrowed : List Bool) : Type 0 where
   pub output : List Bool
@@ -31,9 +33,9 @@ pub record ComputesOn (p : ProgramView) (start : Start) (roles : Roles) (gates :
   pub adds : (held : List Bool) → length held ≡ roles.outputs → MayHold start held
       → AddsOutput roles gates input held output borrowed
 
--- A clean circuit for a program, with so many borrowed lines: its gates are on lines of these roles, each a flip with at
--- most two controls, all positive, on different lines; and they compute the program on every input, whatever the output
--- lines may hold at the start.
+-- A clean circuit for a program, with so many borrowed lines: its gates are on lines of these
+-- roles, each a flip with at most two controls, all positive, on different lines; and they compute
+-- the program on every input, whatever the output lines may hold at the start.
 pub record IsCleanCircuit (p : ProgramView) (start : Start) (borrowed : ℕ) (roles : Roles)
     (gates : List GateView) : Type 0 where
   pub inputs : roles.inputs ≡ sum (widths_of p.params)

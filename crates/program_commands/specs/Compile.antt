@@ -26,8 +26,8 @@ abbrev pub budget_of : OrderView → BudgetView
 budget_of order =
     record { lines = order.lines; gates = order.gates; borrow = order.borrow }
 
--- the lean row of a run: a line for each input, output, write and borrowed bit, and 58 gates for each write and 5 for
--- each output
+-- the lean row of a run: a line for each input, output, write and borrowed bit, and 58 gates for
+-- each write and 5 for each output
 abbrev pub row_lines : TapeView → OrderView → ℕ
 row_lines tape order = inputs_of tape + outputs_of tape + writes_of tape + order.borrow
 
@@ -39,23 +39,24 @@ pub record LeanRowFits (order : OrderView) (tape : TapeView) : Type 0 where
   pub lines : row_lines tape order ≤ order.lines
   pub gates : row_gates tape ≤ order.gates
 
--- The law of Toffoli gates: under the plans `lean` and `compact`, where the lean row fits, there are at most two Toffoli
--- gates (flips with two controls) for each AND that the program's run writes.
+-- The law of Toffoli gates: under the plans `lean` and `compact`, where the lean row fits, there
+-- are at most two Toffoli gates (flips with two controls) for each AND that the program's run
+-- writes.
 pub record HasFewToffoliGates (order : OrderView) (tape : TapeView) (gates : List GateView)
     : Type 0 where
   pub few : (order.plan ≡ Lean) ⊎ (order.plan ≡ Compact) → LeanRowFits order tape
       → (counts_of gates).ccx ≤ 2 * ands_of tape
 
--- The law of lean sizes: under the plan `lean` there are no more lines than those of the lean row, and where it fits, no
--- more than twice its gates.
+-- The law of lean sizes: under the plan `lean` there are no more lines than those of the lean row,
+-- and where it fits, no more than twice its gates.
 pub record HasLeanSize (order : OrderView) (tape : TapeView) (lines gates : ℕ) : Type 0 where
   pub few_lines : order.plan ≡ Lean → lines ≤ row_lines tape order
   pub few_gates : order.plan ≡ Lean → LeanRowFits order tape → gates ≤ 2 * row_gates tape
 
--- These lines and gates are those of a plan that the order asks for, of a settled graph of the tape: an eager one within
--- the graph's eager numbers; a pebbling within the numbers of the largest block that fits, which comes without `--plan`
--- only where the eager numbers do not fit; or a plan of its lean graph, or the best of that one and of what planners
--- found, of few Toffoli gates.
+-- These lines and gates are those of a plan that the order asks for, of a settled graph of the
+-- tape: an eager one within the graph's eager numbers; a pebbling within the numbers of the largest
+-- block that fits, which comes without `--plan` only where the eager numbers do not fit; or a plan
+-- of its lean graph, or the best of that one and of what planners found, of few Toffoli gates.
 pub record IsPlannedAs (order : OrderView) (tape : TapeView) (roles : Roles)
     (gates : List GateView) : Type 0 where
   pub graph : SettledView
@@ -69,9 +70,10 @@ pub record IsPlannedAs (order : OrderView) (tape : TapeView) (roles : Roles)
   pub few_toffoli_gates : HasFewToffoliGates order tape gates
   pub lean_size : HasLeanSize order tape (lines_in roles) (length gates)
 
--- The text is well formed, and that of one program, which leaves this tape and whose claims hold on all inputs, within
--- the nodes; the gates are a clean circuit for it, from what the order's plan allows on the output lines, with its
--- borrowed lines, within its budgets, and of a plan that it allows.
+-- The text is well formed, and that of one program, which leaves this tape and whose claims hold on
+-- all inputs, within the nodes; the gates are a clean circuit for it, from what the order's plan
+-- allows on the output lines, with its borrowed lines, within its budgets, and of a plan that it
+-- allows.
 pub record HasCircuit (order : OrderView) (text : List ℕ) (tape : TapeView) (roles : Roles)
     (gates : List GateView) : Type 0 where
   pub settled : LeavesSettled text order.nodes tape
@@ -81,9 +83,10 @@ pub record HasCircuit (order : OrderView) (text : List ℕ) (tape : TapeView) (r
   pub few_gates : length gates ≤ order.gates
   pub planned : IsPlannedAs order tape roles gates
 
--- The text is well formed, and that of one program, whose claims hold on all inputs, within the nodes; the file is a
--- clean one for it in the order's format, from what the order's plan allows on the output lines, with its borrowed lines
--- and within its budgets, and the text of its gates, which the plan allows.
+-- The text is well formed, and that of one program, whose claims hold on all inputs, within the
+-- nodes; the file is a clean one for it in the order's format, from what the order's plan allows on
+-- the output lines, with its borrowed lines and within its budgets, and the text of its gates,
+-- which the plan allows.
 pub record IsCompiled (order : OrderView) (text file : List ℕ) : Type 0 where
   pub tape : TapeView
   pub settled : LeavesSettled text order.nodes tape
@@ -98,8 +101,9 @@ pub record IsCompiled (order : OrderView) (text file : List ℕ) : Type 0 where
 abbrev pub least_lines : TapeView → OrderView → ℕ
 least_lines tape order = inputs_of tape + outputs_of tape + order.borrow
 
--- The claims hold, and by the measures of the program's tape the budget has too few lines, and no row that the order
--- allows fits. Needed are at least the inputs, outputs and borrowed lines, and one line more than the limit.
+-- The claims hold, and by the measures of the program's tape the budget has too few lines, and no
+-- row that the order allows fits. Needed are at least the inputs, outputs and borrowed lines, and
+-- one line more than the limit.
 pub record PassesLines (order : OrderView) (text : List ℕ) (need limit : ℕ) : Type 0 where
   pub tape : TapeView
   pub settled : LeavesSettled text order.nodes tape
@@ -109,8 +113,8 @@ pub record PassesLines (order : OrderView) (text : List ℕ) (need limit : ℕ) 
   pub needed : need ≡ max (least_lines tape order) (limit + 1)
   pub limit_is : limit ≡ order.lines
 
--- The claims hold, and by the measures of the program's tape the budget has too few gates, and no row that the order
--- allows fits.
+-- The claims hold, and by the measures of the program's tape the budget has too few gates, and no
+-- row that the order allows fits.
 pub record PassesGates (order : OrderView) (text : List ℕ) (limit : ℕ) : Type 0 where
   pub tape : TapeView
   pub settled : LeavesSettled text order.nodes tape
@@ -119,7 +123,8 @@ pub record PassesGates (order : OrderView) (text : List ℕ) (limit : ℕ) : Typ
       → ¬ SomeRowFits order.plan (budget_of order) m
   pub limit_is : limit ≡ order.gates
 
--- the claims hold, and by the measures of the program's tape a row that the order allows fits the budgets
+-- the claims hold, and by the measures of the program's tape a row that the order allows fits the
+-- budgets
 pub record KeepsBudget (order : OrderView) (text : List ℕ) : Type 0 where
   pub tape : TapeView
   pub settled : LeavesSettled text order.nodes tape
@@ -127,7 +132,8 @@ pub record KeepsBudget (order : OrderView) (text : List ℕ) : Type 0 where
   pub are : AreMeasuresOf tape measures
   pub fits : SomeRowFits order.plan (budget_of order) measures
 
--- the text is well formed, and by the measures of its program's tape a row that the order allows fits the budgets
+-- the text is well formed, and by the measures of its program's tape a row that the order allows
+-- fits the budgets
 pub record HasFittingRow (order : OrderView) (text : List ℕ) : Type 0 where
   pub tape : TapeView
   pub left : LeavesTape text tape
@@ -151,8 +157,8 @@ IsCause order text (Lines need limit) = PassesLines order text need limit
 IsCause order text (Gates limit) = PassesGates order text limit
 IsCause order text fault = StopsSettling text order.nodes fault
 
--- where something is, unless memory or a device is wanting: the claims hold on all inputs, within the nodes, and some
--- row of the budget numbers that the order allows fits
+-- where something is, unless memory or a device is wanting: the claims hold on all inputs, within
+-- the nodes, and some row of the budget numbers that the order allows fits
 abbrev pub Serves : OrderView → List ℕ → Type 0
 Serves order text = KeepsBudget order text
 

@@ -15,8 +15,8 @@ use Rattle.revc_words.specs.Words.{OrderView, first_word}
 use Rattle.command_answers.specs.declared.fault.Fault.{Fault}
 use Rattle.command_answers.specs.declared.fault.Fault.TheVariants.{Refused, Claim, BadBits}
 
--- the text is well formed, the word is an input of its program, every claim holds on it, and these are the bits of the
--- program's output on it
+-- the text is well formed, the word is an input of its program, every claim holds on it, and these
+-- are the bits of the program's output on it
 pub record IsValueOf (text word : List ℕ) (value : List Bool) : Type 0 where
   pub program : ProgramView
   pub formed : IsWellFormed text program
@@ -32,8 +32,8 @@ pub record IsBadWord (text word : List ℕ) : Type 0 where
   pub formed : IsWellFormed text program
   pub unfit : ¬ IsInputWord (sum (widths_of program.params)) word
 
--- the text is well formed, the word is an input of its program, and the claim with this number, counted from 1, is the
--- first that fails on it; its term is at this place
+-- the text is well formed, the word is an input of its program, and the claim with this number,
+-- counted from 1, is the first that fails on it; its term is at this place
 pub record IsBroken (text word : List ℕ) (number : ℕ) (at : Place) : Type 0 where
   pub program : ProgramView
   pub formed : IsWellFormed text program

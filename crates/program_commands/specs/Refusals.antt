@@ -32,13 +32,15 @@ OfTokens text P = (tokens : List Token) × IsTokens text tokens × P (closed tex
 abbrev pub OfProgram : List ℕ → (ProgramView → Type 0) → Type 0
 OfProgram text P = (p : ProgramView) × IsProgramText text p × P p
 
--- the names of the program are bound, and its run is stuck on every input, for this cause and at this place
+-- the names of the program are bound, and its run is stuck on every input, for this cause and at
+-- this place
 abbrev pub IsStuckFor : Cause → Place → ProgramView → Type 0
 IsStuckFor cause at p =
     (tree : Tree) × (scope_verdict p.params p.body ≡ bound_as tree)
     × ((input : List Bool) → IsInput p.params input → IsStuck p.params tree input cause at)
 
--- the lexer's first refusal, what refuses the list of the text's tokens, or what refuses the text's program
+-- the lexer's first refusal, what refuses the list of the text's tokens, or what refuses the text's
+-- program
 abbrev pub IsRefusedAt : List ℕ → FaultKind → Place → Type 0
 IsRefusedAt text BadByte at = IsRefused text (lexer.BadByte at)
 IsRefusedAt text LongName at = IsRefused text (lexer.LongName at)

@@ -23,8 +23,8 @@ pub record LeavesSettled (text : List ℕ) (nodes : ℕ) (tape : TapeView) : Typ
   pub left : LeavesTape text tape
   pub hold : HoldWithin tape nodes
 
--- The claim with this number, counted from 1, is the first that fails on some input, and these bits are the least such
--- input. Its term is at this place.
+-- The claim with this number, counted from 1, is the first that fails on some input, and these bits
+-- are the least such input. Its term is at this place.
 pub record BreaksClaim (text : List ℕ) (nodes number : ℕ) (at : Place) (bits : List Bool)
     : Type 0 where
   pub tape : TapeView
@@ -34,8 +34,8 @@ pub record BreaksClaim (text : List ℕ) (nodes number : ℕ) (at : Place) (bits
   pub count : number ≡ before + 1
   pub place : at ≡ breaks.claim.at
 
--- The claims before this one, counted from 1, hold on all inputs, and with this one the functions on which they rest
--- are the first time more than the nodes. Its term is at this place.
+-- The claims before this one, counted from 1, hold on all inputs, and with this one the functions
+-- on which they rest are the first time more than the nodes. Its term is at this place.
 pub record PassesNodes (text : List ℕ) (nodes number : ℕ) (at : Place) : Type 0 where
   pub tape : TapeView
   pub left : LeavesTape text tape
@@ -44,7 +44,8 @@ pub record PassesNodes (text : List ℕ) (nodes number : ℕ) (at : Place) : Typ
   pub count : number ≡ before + 1
   pub place : at ≡ passes.claim.at
 
--- why the claims of a text are not settled within so many nodes: the text is refused, or a claim stops
+-- why the claims of a text are not settled within so many nodes: the text is refused, or a claim
+-- stops
 abbrev pub StopsSettling : List ℕ → ℕ → Fault → Type 0
 StopsSettling text nodes (Refused refusal) = IsRefusal text refusal
 StopsSettling text nodes (Claim number at bits) = BreaksClaim text nodes number at bits

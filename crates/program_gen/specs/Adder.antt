@@ -1,4 +1,5 @@
--- The program of a ripple-carry adder of two numbers a and b of n bits, whose places are counted from the least bit.
+-- The program of a ripple-carry adder of two numbers a and b of n bits, whose places are counted
+-- from the least bit.
 use Rattle.std.specs.Prelude.{ℕ, ◌+◌, List, [], ◌∷◌, ◌++◌, codes, decimal}
 use Rattle.program_gen.specs.Places.{line, outputs, ripple_text}
 

@@ -7,7 +7,8 @@ abbrev pub line : List (List ℕ) → List ℕ
 line [] = 10 ∷ []
 line (piece ∷ pieces) = piece ++ line pieces
 
--- What puts a place, as it is called: each call that ends well adds the piece of the place to the text.
+-- What puts a place, as it is called: each call that ends well adds the piece of the place to the
+-- text.
 abbrev pub Puts : {T R E : Type 0} → (T → List ℕ) → (T → ℕ → Result R E → T → Type 0)
     → (ℕ → List ℕ) → Type 0
 Puts {T} text calls piece = (before : T) (i : ℕ) (result : _) (after : T)
@@ -22,7 +23,8 @@ unfoldable pub outputs : List ℕ → ℕ → List ℕ
 outputs name n = line (codes "reg [" ∷ flat_map (output name) (range_with_len 0 n) ∷ codes "c"
     ∷ decimal n ∷ codes "]" ∷ [])
 
--- a program that goes from place to place: what opens it, place 0 with it, the places above 0, and what it puts out
+-- a program that goes from place to place: what opens it, place 0 with it, the places above 0, and
+-- what it puts out
 abbrev pub ripple_text : (ℕ → List ℕ) → (ℕ → List ℕ) → (ℕ → List ℕ) → ℕ → List ℕ
 ripple_text opening place last n =
     opening n ++ flat_map place (range_with_len 1 (n - 1)) ++ last n ++ line (codes "}" ∷ [])

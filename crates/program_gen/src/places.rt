@@ -7,7 +7,8 @@ ghost use Rattle.program_gen.specs.Places.{Puts, outputs, ripple_text};
 use revc_base::Memory;
 use std::alloc::{AllocError, Global};
 
-/// Puts each place from the first one on to the end. It answers `AllocError` where memory is refused.
+/// Puts each place from the first one on to the end. It answers `AllocError` where memory is
+/// refused.
 pub fn put_places<P>(text: &mut String, first: u32, end: u32, put: P) -> Result<(), AllocError>
 where
     P: Fn(&mut String, u32) -> Result<(), AllocError>,

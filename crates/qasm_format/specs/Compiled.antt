@@ -45,8 +45,9 @@ compiled_text roles gates = file_text (registers_of roles) (argument_of roles) g
 
 -- ---- what the text means
 
--- The text means a file of these gates, whose lines are those of the registers `inp`, `outp`, `work` and `dirty`, by
--- these roles: each register has the lines of its role, and is left out exactly where there are none.
+-- The text means a file of these gates, whose lines are those of the registers `inp`, `outp`,
+-- `work` and `dirty`, by these roles: each register has the lines of its role, and is left out
+-- exactly where there are none.
 pub record MeansCompiled (text : List ℕ) (roles : Roles) (gates : List GateView) : Type 0 where
   pub file : QasmView
   pub meaning : MeansFile text file

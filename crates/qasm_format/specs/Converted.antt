@@ -1,4 +1,5 @@
--- The file of a circuit that is no compiled one: its lines are those of `q`, and an added line is that of `dirty`.
+-- The file of a circuit that is no compiled one: its lines are those of `q`, and an added line is
+-- that of `dirty`.
 use Rattle.std.specs.Prelude.{◌≡◌, ℕ, ◌-◌, ◌≤◌, nat_lt, Bool, true, if◌then◌else◌, List, [], ◌∷◌, codes}
 use Rattle.std.specs.Fmt.{decimal}
 use Rattle.mct_circuit.specs.Gates.{GateView}
@@ -31,7 +32,8 @@ abbrev pub converted_text : ℕ → Bool → List GateView → List ℕ
 converted_text count added gates =
     file_text (converted_registers count added) (converted_place count added) gates
 
--- the text means a file of these gates, whose lines are those of `q`, and of `dirty` where a line was added
+-- the text means a file of these gates, whose lines are those of `q`, and of `dirty` where a line
+-- was added
 pub record MeansConverted (text : List ℕ) (count : ℕ) (added : Bool)
     (gates : List GateView) : Type 0 where
   pub file : QasmView

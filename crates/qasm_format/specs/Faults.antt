@@ -7,7 +7,8 @@ use Rattle.qasm_lexer.specs.Tokens.{Left, BeginsWith, whole}
 use Rattle.qasm_format.specs.Stages.{Stage, head, Leads, PassesLimit, MayEnd}
 use Rattle.qasm_format.specs.Qasm.{Reads}
 
--- Tokens lead to a stage, and the one behind them, at this place, leads nowhere from there; no text may end there.
+-- Tokens lead to a stage, and the one behind them, at this place, leads nowhere from there; no text
+-- may end there.
 pub record StopsAt (old : Left) (from : Stage) (at : Place) (word : List ℕ)
     (stage : Stage) : Type 0 where
   pub mid : Left

@@ -29,7 +29,8 @@ pub record MeansFile (text : List ℕ) (file : QasmView) : Type 0 where
   pub gates : file.gates ≡ said.gates
   pub some : 1 ≤ lines_of_all said.registers
 
--- What each file has: registers of different names with 1 to 16,384 lines in all, and at most 4,000,000 gates on them.
+-- What each file has: registers of different names with 1 to 16,384 lines in all, and at most
+-- 4,000,000 gates on them.
 pub record IsFile (file : QasmView) : Type 0 where
   pub some : 1 ≤ lines_of_all file.registers
   pub few : lines_of_all file.registers ≤ MOST_LINES

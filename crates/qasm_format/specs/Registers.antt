@@ -19,7 +19,8 @@ kept_words =
     codes "barrier" ∷ codes "creg" ∷ codes "gate" ∷ codes "if" ∷ codes "include"
     ∷ codes "measure" ∷ codes "opaque" ∷ codes "qreg" ∷ codes "reset" ∷ codes "pi" ∷ []
 
--- a name of a register: an identifier of at most 64 bytes that begins with a lower-case letter, and is no kept word
+-- a name of a register: an identifier of at most 64 bytes that begins with a lower-case letter, and
+-- is no kept word
 pub record IsName (word : List ℕ) : Type 0 where
   pub spelled : is_identifier word ≡ true
   pub begins : is_ascii_lowercase (slice_index word 0) ≡ true
@@ -71,7 +72,8 @@ abbrev pub IsLine : Spot → Type 0
 IsLine (Line at) = Unit {0}
 IsLine (Whole first size) = ⊥
 
--- how many gates a statement stands for: the size that its whole registers share, or one where it has none
+-- how many gates a statement stands for: the size that its whole registers share, or one where it
+-- has none
 pub record AreSpread (spots : List Spot) (count : ℕ) : Type 0 where
   pub shared : AllByRecursion (HasSize count) spots
   pub alone : AllByRecursion IsLine spots → count ≡ 1

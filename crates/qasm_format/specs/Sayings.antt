@@ -1,4 +1,5 @@
--- What each statement says, read whole. A text is the head and statements: this is the law `files_are_statements`.
+-- What each statement says, read whole. A text is the head and statements: this is the law
+-- `files_are_statements`.
 use Rattle.std.specs.Prelude.{◌≡◌, ℕ, ◌+◌, ◌<◌, ◌≤◌, ◌↔◌, true, false, List, [], ◌∷◌, ◌++◌, length, codes}
 use Rattle.std.specs.List.{flat_map}
 use Rattle.list_facts.specs.Lists.{IsAmong}
@@ -36,8 +37,8 @@ pub data AreArguments (registers : List Register) : List (List ℕ) → List Spo
       → IsArgument registers words spot → AreArguments registers others spots
       → AreArguments registers (words ++ codes "," ∷ others) (spot ∷ spots)
 
--- The words of a statement, what was said before it, and what is said with it: the include, which may stand once; a
--- declaration; or a barrier or gates.
+-- The words of a statement, what was said before it, and what is said with it: the include, which
+-- may stand once; a declaration; or a barrier or gates.
 pub data Says : List (List ℕ) → Said → Said → Type 0 where
   includes : {said : Said} → said.included ≡ false
       → Says (codes "include" ∷ codes "\"qelib1.inc\"" ∷ codes ";" ∷ []) said
@@ -64,7 +65,8 @@ pub record AreHeadAndStatements (tokens : List (List ℕ)) (said : Said) : Type 
   pub tokens_are : tokens ≡ head_words ++ behind
   pub statements : AreStatements behind nothing_said said
 
--- Tokens lead from the head of a text to the end of a statement exactly where they are the head and statements.
+-- Tokens lead from the head of a text to the end of a statement exactly where they are the head and
+-- statements.
 abbrev pub FilesAreStatements : Type 0
 FilesAreStatements = (tokens : List (List ℕ)) (said : Said)
     → LeadTo tokens head (starts said) ↔ AreHeadAndStatements tokens said

@@ -1,4 +1,5 @@
--- The rules of an OpenQASM text, token by token: each token leads from one stage of the text to the next.
+-- The rules of an OpenQASM text, token by token: each token leads from one stage of the text to the
+-- next.
 use Rattle.std.specs.Prelude.{◌≡◌, ℕ, ◌+◌, ◌<◌, ◌≤◌, Bool, true, false, ◌⊎◌, List, [], ◌∷◌, ◌++◌, length, map, codes}
 use Rattle.std.specs.List.{AllByRecursion, range_with_len}
 use Rattle.list_facts.specs.Lists.{IsAmong}
@@ -17,7 +18,8 @@ use Rattle.qasm_lexer.specs.Tokens.{is_identifier, is_number}
 use Rattle.qasm_format.specs.declared.file.Register.{Register}
 use Rattle.qasm_format.specs.Registers.{IsName, IsNumber, lines_of_all, IsLaid, line_at, AreSpread}
 
--- what statements said so far: whether the include stood, all names that were declared, the registers and the gates
+-- what statements said so far: whether the include stood, all names that were declared, the
+-- registers and the gates
 pub record Said : Type 0 where
   pub included : Bool
   pub names : List (List ℕ)
@@ -36,7 +38,8 @@ pub data Stage : Type 0 where
   -- the name and the size of a register
   wants_name : RegisterKind → Said → Stage
   wants_size : RegisterKind → List ℕ → Said → Stage
-  -- an argument behind these; a register was named, with its first line and its size; an index; behind an argument
+  -- an argument behind these; a register was named, with its first line and its size; an index;
+  -- behind an argument
   wants_argument : Use → List Spot → Said → Stage
   behind_name : Use → List Spot → (first size : ℕ) → Said → Stage
   wants_index : Use → List Spot → (first size : ℕ) → Said → Stage
@@ -81,7 +84,8 @@ declared kind name size said = record said {
   registers = kind_registers kind name size said.registers;
 }
 
--- with so many lines and a register of this size the lines stay within their limit; bits have no lines
+-- with so many lines and a register of this size the lines stay within their limit; bits have no
+-- lines
 abbrev pub HasRoom : RegisterKind → (size lines : ℕ) → Type 0
 HasRoom Qubits size lines = lines + size ≤ MOST_LINES
 HasRoom Bits size lines = Unit {0}

@@ -5,7 +5,8 @@ use Rattle.std.specs.Prelude.{ℕ, List, [], ◌∷◌, ◌++◌, codes}
 pub data Argument : Type 0 where
   one_of : (name digits : List ℕ) → Argument
 
--- A statement: the include, the declaration of a register with the digits of its size, or a gate by its word.
+-- A statement: the include, the declaration of a register with the digits of its size, or a gate by
+-- its word.
 pub data Statement : Type 0 where
   includes : Statement
   declares : (name digits : List ℕ) → Statement

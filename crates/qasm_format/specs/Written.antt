@@ -1,4 +1,5 @@
--- The text of a file as it is written: the head, the include, and each register and each gate in a line of its own.
+-- The text of a file as it is written: the head, the include, and each register and each gate in a
+-- line of its own.
 use Rattle.std.specs.Prelude.{ℕ, zero, suc, List, [], ◌∷◌, ◌++◌, length, map, codes}
 use Rattle.std.specs.List.{flat_map, concat}
 use Rattle.std.specs.Fmt.{decimal}

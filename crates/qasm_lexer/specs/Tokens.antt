@@ -50,7 +50,8 @@ IsNext text word rest =
     IsLongest text word rest
     ⊎ ((b : ℕ) × (word ≡ b ∷ []) × (text ≡ b ∷ rest) × IsStray text)
 
--- The front of the text is cut into gaps, which are dropped, and these tokens, the longest each time.
+-- The front of the text is cut into gaps, which are dropped, and these tokens, the longest each
+-- time.
 -- This rest is left.
 pub data Cuts : List ℕ → List (List ℕ) → List ℕ → Type 0 where
   nothing_taken : {text : List ℕ} → Cuts text [] text
@@ -84,8 +85,8 @@ pub record Moves (old new : Left) (tokens : List (List ℕ)) : Type 0 where
 abbrev pub BeginsWith : List ℕ → List ℕ → Type 0
 BeginsWith text word = ((word ≡ []) × (text ≡ [])) ⊎ ((rest : List ℕ) × IsNext text word rest)
 
--- The token at the front, at this place, is taken, so that exactly the bytes behind it are left; at the end nothing is
--- taken.
+-- The token at the front, at this place, is taken, so that exactly the bytes behind it are left; at
+-- the end nothing is taken.
 pub record Takes (old new : Left) (word : List ℕ) (at : Place) : Type 0 where
   pub mid : Left
   pub gaps : Moves old mid []

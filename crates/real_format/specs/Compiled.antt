@@ -34,8 +34,8 @@ constants_of roles =
 abbrev pub names_of : Roles → List (List ℕ)
 names_of roles = names_by (name_of_line roles) (lines_in roles)
 
--- the lines of a file have these roles: x, y, w and b lines in this order, each numbered from 0, with their constants,
--- and no line's last bit is of no use
+-- the lines of a file have these roles: x, y, w and b lines in this order, each numbered from 0,
+-- with their constants, and no line's last bit is of no use
 pub record HasRoles (file : RealView) (roles : Roles) : Type 0 where
   pub names : file.names ≡ names_of roles
   pub constants : file.constants ≡ constants_of roles

@@ -1,4 +1,5 @@
--- The file of a circuit that is no compiled one: its lines are named by their numbers, and have given marks.
+-- The file of a circuit that is no compiled one: its lines are named by their numbers, and have
+-- given marks.
 use Rattle.std.specs.Prelude.{◌≡◌, ℕ, Bool, List, ◌∷◌, length}
 use Rattle.std.specs.Fmt.{decimal}
 use Rattle.real_format.specs.declared.file.Mark.{Mark}
@@ -20,7 +21,8 @@ abbrev pub converted_text : List Mark → List Bool → List GateView → List �
 converted_text constants garbage gates =
     file_text numbered_name (length constants) constants garbage gates
 
--- the text means a file of these gates, whose lines have these marks, and are named by their numbers
+-- the text means a file of these gates, whose lines have these marks, and are named by their
+-- numbers
 pub record MeansConverted (text : List ℕ) (constants : List Mark) (garbage : List Bool)
     (gates : List GateView) : Type 0 where
   pub file : RealView

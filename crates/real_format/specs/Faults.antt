@@ -11,7 +11,8 @@ use Rattle.real_format.specs.Real.{RealView, Place, in_header, in_gates, at_end,
 
 -- ---- limits
 
--- a word that would be a name, but for its length: it begins as a name does, and has more than 64 bytes
+-- a word that would be a name, but for its length: it begins as a name does, and has more than 64
+-- bytes
 pub record IsLong (word : List ℕ) : Type 0 where
   pub long : MOST_NAME_BYTES < length word
   pub begins : ¬ IsBarred (slice_index word 0)
@@ -49,7 +50,8 @@ pub record HasManyGates (file : RealView) (line : List (List ℕ)) : Type 0 wher
   pub gate_word : IsGateWord word controls targets
   pub full : length file.gates ≡ MOST_GATES
 
--- the word, where the gate wants one more: a control, which may have a sign, or a line that it flips or swaps
+-- the word, where the gate wants one more: a control, which may have a sign, or a line that it
+-- flips or swaps
 abbrev pub IsLongWanted : ℕ → List (List ℕ) → List (List ℕ) → List ℕ → Type 0
 IsLongWanted wanted controls targets word =
     ((targets ≡ []) × (length controls < wanted)

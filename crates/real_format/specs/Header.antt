@@ -1,4 +1,5 @@
--- The header of a `.real` text: what its lines say, and which line may stand behind those before it.
+-- The header of a `.real` text: what its lines say, and which line may stand behind those before
+-- it.
 use Rattle.std.specs.Prelude.{◌≡◌, ℕ, ◌≤◌, Bool, true, false, ◌⊎◌, List, [], ◌∷◌, length, map, codes, slice_index, Option, Some, None}
 use Rattle.std.specs.List.{AllByRecursion}
 use Rattle.std.specs.Str.Parse.{IsNumeral, digits_value}
@@ -44,7 +45,8 @@ garbage_byte false = 45
 
 -- ---- what a header says
 
--- What the lines of a header say: whether a line of a kind was there, and else what it said, or nothing so far.
+-- What the lines of a header say: whether a line of a kind was there, and else what it said, or
+-- nothing so far.
 pub record HeaderView : Type 0 where
   pub version : Bool
   pub inputs : Bool

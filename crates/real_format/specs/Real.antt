@@ -1,4 +1,5 @@
--- What a `.real` text means: names, marks and gates. Its lines lead from an empty header to the end of a file.
+-- What a `.real` text means: names, marks and gates. Its lines lead from an empty header to the end
+-- of a file.
 use Rattle.std.specs.Prelude.{◌≡◌, ℕ, ◌+◌, ◌≤◌, ◌<◌, Bool, false, if◌then◌else◌, ◌⊎◌, List, [], ◌∷◌, ◌++◌, length, map, replicate, codes, slice_get, Some, unwrap_or}
 use Rattle.std.specs.List.{AllByRecursion, AllZip}
 use Rattle.list_facts.specs.Lists.{AreApart, AreDifferent}
@@ -12,7 +13,8 @@ use Rattle.format_parts.specs.Readings as readings
 use Rattle.real_format.specs.Words.{said_lines}
 use Rattle.real_format.specs.Header.{HeaderView, IsName, IsNumber, Says, nothing_said, spelling_of}
 
--- a file: for each line its name, the bit with which it starts and whether its last bit is of no use; then the gates
+-- a file: for each line its name, the bit with which it starts and whether its last bit is of no
+-- use; then the gates
 pub record RealView : Type 0 where
   pub names : List (List ℕ)
   pub constants : List Mark
@@ -94,8 +96,8 @@ LeadTo lines from to = readings.LeadTo Leads lines from to
 pub record MeansFile (text : List ℕ) (file : RealView) : Type 0 where
   pub read : LeadTo (said_lines text) (in_header nothing_said) (at_end file)
 
--- What each file has: different names for its lines, of which there are 1 to 16,384, a mark of each kind for each line,
--- and at most 4,000,000 gates on its lines.
+-- What each file has: different names for its lines, of which there are 1 to 16,384, a mark of each
+-- kind for each line, and at most 4,000,000 gates on its lines.
 pub record IsFile (file : RealView) : Type 0 where
   pub some : 1 ≤ length file.names
   pub few : length file.names ≤ MOST_LINES
@@ -115,7 +117,8 @@ pub record GoesOn (place : Place) : Type 0 where
   pub file : RealView
   pub leads : LeadTo lines place (at_end file)
 
--- Wherever lines have led, some lines lead on to the end of a file: each front that keeps the rules begins a file.
+-- Wherever lines have led, some lines lead on to the end of a file: each front that keeps the rules
+-- begins a file.
 abbrev pub FrontsGoOn : Type 0
 FrontsGoOn =
     (lines : List (List (List ℕ))) (place : Place) → LeadTo lines (in_header nothing_said) place

@@ -31,7 +31,8 @@ header_lines name count constants garbage =
     ∷ (codes ".begin" ∷ [])
     ∷ []
 
--- the lines of a file of so many lines, of these names and marks: its header, a line for each gate, and the end
+-- the lines of a file of so many lines, of these names and marks: its header, a line for each gate,
+-- and the end
 abbrev pub file_lines : (ℕ → List ℕ) → ℕ → List Mark → List Bool → List GateView
     → List (List (List ℕ))
 file_lines name count constants garbage gates =

@@ -56,11 +56,13 @@ abbrev pub with_reading : Option TextLimit → List ℕ → List ℕ
 with_reading None statuses = statuses
 with_reading (Some limit) statuses = 9 ∷ statuses
 
--- the statuses with which a command may end: success, faults of devices and memory, and those of its causes
+-- the statuses with which a command may end: success, faults of devices and memory, and those of
+-- its causes
 abbrev pub statuses_of : Promise → List ℕ
 statuses_of promise = 0 ∷ 10 ∷ 11 ∷ with_reading promise.reads promise.statuses
 
--- the text of a command, where it is told: that of the source, and none where the source is not read
+-- the text of a command, where it is told: that of the source, and none where the source is not
+-- read
 abbrev pub text_told : Option TextLimit → Option (List ℕ) → Option (List ℕ)
 text_told None rest = Some []
 text_told (Some limit) rest = rest

@@ -12,7 +12,8 @@ use Rattle.revc_words.specs.Words.{OrderView, HasNoOrder, IsOrder}
 
 -- ---- a run
 
--- a source or a sink before a run and behind it: what it says, its count of faults, and that it is as it was
+-- a source or a sink before a run and behind it: what it says, its count of faults, and that it is
+-- as it was
 pub record Device : Type 1 where
   pub old : Held
   pub new : Held
@@ -64,7 +65,8 @@ pub record Grows (P : List ℕ → Type 0) (out : Device) : Type 0 where
   pub took : Took out.old out.new bytes
   pub flushed : out.new.flushed
 
--- the bytes that a sink took are a prefix of some that have this property, which it did not surely take
+-- the bytes that a sink took are a prefix of some that have this property, which it did not surely
+-- take
 pub record GrowsByPrefix (P : List ℕ → Type 0) (out : Device) : Type 0 where
   pub bytes : List ℕ
   pub is : P bytes
@@ -95,21 +97,24 @@ pub record RestsOnText (status : ℕ) : Type 0 where
   pub no_write : status ≢ 10
   pub no_memory : status ≢ 11
 
--- the status is that of a fault that the text lets the order end with, and the sink received the line of this fault
+-- the status is that of a fault that the text lets the order end with, and the sink received the
+-- line of this fault
 pub record Stopped (order : OrderView) (text : List ℕ) (status : ℕ) (err : Device) : Type 0 where
   pub fault : Fault
   pub cause : IsCause order text fault
   pub caused : status ≡ status_of fault
   pub line : Receives err.old err.new err.before err.now (line_of fault)
 
--- the status is that of a fault that the text lets the order end with, and that may come in place of an exact one
+-- the status is that of a fault that the text lets the order end with, and that may come in place
+-- of an exact one
 pub record IsPreceded (order : OrderView) (text : List ℕ) (status : ℕ) : Type 0 where
   pub fault : Fault
   pub may : (promise_of order.command).MayPrecede fault
   pub cause : IsCause order text fault
   pub caused : status ≡ status_of fault
 
--- each exact fault that the text lets the order end with has this status, unless another may come in its place
+-- each exact fault that the text lets the order end with has this status, unless another may come
+-- in its place
 pub record IsStatusOfAll (order : OrderView) (text : List ℕ) (status : ℕ) : Type 0 where
   pub each : (fault : Fault) → (promise_of order.command).IsExact fault
       → IsCause order text fault → (status ≡ status_of fault) ⊎ IsPreceded order text status
@@ -139,12 +144,14 @@ IsReadWhole source order text = IfSome (reads_of order) (λ (limit : TextLimit).
 
 -- what the status says of a run, and of the sink of its message
 pub record Answers (run : Run) (err : Device) (status : ℕ) : Type 0 where
-  -- at 0 what the order gives for the text was written and flushed, at 10 a prefix of it, and else nothing
+  -- at 0 what the order gives for the text was written and flushed, at 10 a prefix of it, and else
+  -- nothing
   pub gives : status ≡ 0 → HoldsOfOrder run (λ order text. Grows (Gives order text) run.out)
   pub begins : status ≡ 10
       → HoldsOfOrder run (λ order text. GrowsByPrefix (Gives order text) run.out)
   pub silent : status ≢ 0 → status ≢ 10 → run.out.IsUnchanged
-  -- 2 comes exactly where the words give no order, unless memory is wanting; else the status is one of the command's
+  -- 2 comes exactly where the words give no order, unless memory is wanting; else the status is one
+  -- of the command's
   pub usage : status ≡ 2 → HasNoOrder run.words
   pub no_order : HasNoOrder run.words → (status ≡ 2) ⊎ (status ≡ 11)
   pub statuses : status ≢ 2 → MayEnd run.words status
@@ -159,7 +166,8 @@ pub record Answers (run : Run) (err : Device) (status : ℕ) : Type 0 where
   -- so it does where the source does not fail, and the sink surely takes what the order gives
   pub surely : ¬ Rises run.source → HoldsOfOrder run (λ order text.
       IsSureOf (Gives order text) run.out → EndsWell order text status)
-  -- 9 comes only where the source failed, and 10 only where the sink did; at each other status it did not
+  -- 9 comes only where the source failed, and 10 only where the sink did; at each other status it
+  -- did not
   pub read_fault : status ≡ 9 → Rises run.source
   pub read_well : status ≢ 9 → IsCalm run.source
   pub write_fault : status ≡ 10 → Rises run.out
@@ -169,7 +177,8 @@ pub record Answers (run : Run) (err : Device) (status : ℕ) : Type 0 where
   pub quiet : status ≡ 0 → err.IsUnchanged
   -- where no order of the words reads the source, it is as it was
   pub unread : ReadsNothing run.words → run.source.IsUnchanged
-  -- a text within the limit is read to its end before all else, and no more than one byte past the limit
+  -- a text within the limit is read to its end before all else, and no more than one byte past the
+  -- limit
   pub read_whole : status ≢ 2 → status ≢ 9 → status ≢ 11
       → HoldsOfOrder run (IsReadWhole run.source)
   pub reads_few : ReadsFew run

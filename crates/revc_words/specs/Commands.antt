@@ -5,7 +5,8 @@ use Rattle.revc_words.specs.declared.commands.Command.TheVariants.{Compile, Chec
 use Rattle.revc_words.specs.declared.commands.Positional.{Positional}
 use Rattle.revc_words.specs.declared.commands.Positional.TheVariants.{Nothing, Word, Words, Number, KindAndNumber}
 
--- a command's name, which is the first word; the names of its options; and what it takes its positional words for
+-- a command's name, which is the first word; the names of its options; and what it takes its
+-- positional words for
 pub record SpellingView : Type 0 where
   pub name : List ℕ
   pub options : List (List ℕ)

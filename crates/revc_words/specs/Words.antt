@@ -38,8 +38,8 @@ words_of words = map string_bytes words
 -- a command, the plans that it tries, the most lines and gates of its circuit, how many lines it
 -- borrows, the most nodes of its diagrams, what its output lines may hold at the start, the way by
 -- which a circuit is verified, the format of the circuit of a program, the formats that `convert`
--- and `tidy` read and write, what a program computes of numbers, the factor by which it multiplies, what is written of it, how many bits its
--- numbers have, and words of bits
+-- and `tidy` read and write, what a program computes of numbers, the factor by which it multiplies,
+-- what is written of it, how many bits its numbers have, and words of bits
 pub record OrderView : Type 0 where
   pub command : Command
   pub plan : How
@@ -244,7 +244,8 @@ IsWrite given write = IsChosen (codes "write") write_word writes.Program given w
 
 -- ---- positional words
 
--- what positional words give: what a program computes of numbers, how many bits these have, and words of bits
+-- what positional words give: what a program computes of numbers, how many bits these have, and
+-- words of bits
 pub record Taken : Type 0 where
   pub kind : Kind
   pub number : ℕ
@@ -272,7 +273,8 @@ HasFactor Less factor = IsNone factor
 HasFactor Inc factor = IsNone factor
 HasFactor Mul factor = IsSome factor
 
--- a kind of programs, given a factor exactly where they multiply, a number in its range, and no words of bits
+-- a kind of programs, given a factor exactly where they multiply, a number in its range, and no
+-- words of bits
 pub record TakesKind (given : List Setting) (plain : List (List ℕ)) (taken : Taken) : Type 0 where
   pub word : List ℕ
   pub both : plain ≡ kind_word taken.kind ∷ word ∷ []
@@ -280,8 +282,8 @@ pub record TakesKind (given : List Setting) (plain : List (List ℕ)) (taken : T
   pub in_range : IsNumberIn 1 MOST_BITS word taken.number
   pub no_bits : taken.bits ≡ []
 
--- what a command takes its positional words for, behind these options: nothing, one word of bits, one or more words of
--- bits, a number, or a kind of programs and a number
+-- what a command takes its positional words for, behind these options: nothing, one word of bits,
+-- one or more words of bits, a number, or a kind of programs and a number
 abbrev pub TakesWords : Positional → List Setting → List (List ℕ) → Taken → Type 0
 TakesWords Nothing given plain taken = (length plain ≡ 0) × AreBits plain taken
 TakesWords Word given plain taken = (length plain ≡ 1) × AreBits plain taken

@@ -16,7 +16,8 @@ pub record IsWithinLimits (tokens : List Token) : Type 0 where
   pub body : Tree
   pub program : IsProgramOf tokens params body
 
--- No sentence begins with these tokens and the named one, of this kind, behind them. At `End` they are no sentence.
+-- No sentence begins with these tokens and the named one, of this kind, behind them. At `End` they
+-- are no sentence.
 abbrev pub CannotStandAs : Tok → List Token → Token → Type 0
 CannotStandAs toks.End front named = ¬ IsSentence front
 CannotStandAs tok front named = ¬ Begins (front ++ named ∷ [])
@@ -24,8 +25,9 @@ CannotStandAs tok front named = ¬ Begins (front ++ named ∷ [])
 abbrev pub CannotStand : List Token → Token → Type 0
 CannotStand front named = CannotStandAs named.tok front named
 
--- The token with this number, counted from 0, and with this place is the first that cannot stand where it stands: some sentence
--- begins with the tokens before it, which open no level above 100, and no sentence with the tokens through it.
+-- The token with this number, counted from 0, and with this place is the first that cannot stand
+-- where it stands: some sentence begins with the tokens before it, which open no level above 100,
+-- and no sentence with the tokens through it.
 pub record IsSyntax (tokens : List Token) (number : ℕ) (at : Place) : Type 0 where
   pub front : List Token
   pub named : Token
@@ -36,8 +38,8 @@ pub record IsSyntax (tokens : List Token) (number : ℕ) (at : Place) : Type 0 w
   pub begins : BeginsLow front
   pub refused : CannotStand front named
 
--- The token at this place is the first that opens level 101: some sentence begins with the tokens through it, and those before
--- it open no level above 100.
+-- The token at this place is the first that opens level 101: some sentence begins with the tokens
+-- through it, and those before it open no level above 100.
 pub record IsNesting (tokens : List Token) (at : Place) : Type 0 where
   pub front : List Token
   pub named : Token
@@ -63,9 +65,12 @@ IsVerdict tokens (inputs at) = IsInputs tokens at
 
 -- Each list of tokens with one `End`, at its end, has a verdict.
 abbrev pub SomeVerdict : Type 0
-SomeVerdict = (tokens : List Token) → IsEnded tokens → (verdict : Verdict) × IsVerdict tokens verdict
+SomeVerdict =
+    (tokens : List Token) → IsEnded tokens → (verdict : Verdict) × IsVerdict tokens verdict
 
 -- No list of tokens has two verdicts.
 abbrev pub OneVerdict : Type 0
-OneVerdict = (tokens : List Token) (verdict other : Verdict) → IsVerdict tokens verdict → IsVerdict tokens other
+OneVerdict =
+    (tokens : List Token) (verdict other : Verdict) → IsVerdict tokens verdict
+    → IsVerdict tokens other
     → verdict ≡ other

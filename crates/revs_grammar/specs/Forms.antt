@@ -1,4 +1,5 @@
--- What the lines of the grammar are made of: the forms, what each stands for, and the pieces of a line.
+-- What the lines of the grammar are made of: the forms, what each stands for, and the pieces of a
+-- line.
 use Rattle.std.specs.Prelude.{◌≡◌, ℕ, ◌+◌, ◌==◌, cond, Option, List, [], ◌∷◌, ◌⊎◌}
 use Rattle.revc_base.specs.declared.place.Place.{Place}
 use Rattle.revs_lexer.specs.declared.sign.Sign.{Sign}
@@ -78,7 +79,8 @@ sign_code signs.DotDot = 14
 sign_code signs.Plus = 15
 sign_code signs.Minus = 16
 
--- The kind of a token as a number: all names are of one kind, and all numbers but 2, however it is spelled.
+-- The kind of a token as a number: all names are of one kind, and all numbers but 2, however it is
+-- spelled.
 abbrev pub code : Tok → ℕ
 code toks.End = 0
 code (toks.Name text) = 1
@@ -118,7 +120,8 @@ held (sign s) t = t.at
 
 -- ---- forms
 
--- What repeats or may be left out is a form of its own, and so is what is left of two lines that begin alike.
+-- What repeats or may be left out is a form of its own, and so is what is left of two lines that
+-- begin alike.
 pub data Kind : Type 0 where
   program : Kind
   parameter : Kind
@@ -216,7 +219,8 @@ Val f = KindVal f.kind
 
 -- ---- lines
 
--- Where a form of a line stands: at the level of the line, a level further in, or where no level counts.
+-- Where a form of a line stands: at the level of the line, a level further in, or where no level
+-- counts.
 pub data Depth : Type 0 where
   same : Depth
   inside : Depth

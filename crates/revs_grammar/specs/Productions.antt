@@ -43,7 +43,8 @@ abbrev pub parts_of : Tree → List Part → Tree
 parts_of inner [] = inner
 parts_of inner (next ∷ more) = t.parts inner (next ∷ more)
 
--- what a `let` binds: a value, or with names behind its own the function of these names, which stands at the first of them
+-- what a `let` binds: a value, or with names behind its own the function of these names, which
+-- stands at the first of them
 abbrev pub bound_of : List Name → Tree → Tree
 bound_of [] term = term
 bound_of (first ∷ more) term = t.function (first ∷ more) term first.at
@@ -94,13 +95,15 @@ module _ (profile : Profile) where
   abbrev pub function_line : Production Tree
   function_line =
       line
-      (opening (word words.Fun) ∷ kept any_name ∷ shared names ∷ one (sign signs.Arrow) ∷ deeper expression ∷ [])
+      (opening (word words.Fun) ∷ kept any_name ∷ shared names ∷ one (sign signs.Arrow)
+      ∷ deeper expression ∷ [])
       (λ at first more term. t.function (first ∷ more) term at)
 
   -- application = append atom atom
   abbrev pub append_line : Production Tree
   append_line =
-      line (kept (word words.Append) ∷ here atom ∷ here atom ∷ []) (λ at first second. t.append first second at)
+      line (kept (word words.Append) ∷ here atom ∷ here atom ∷ [])
+      (λ at first second. t.append first second at)
 
   -- application = atom { atom }
   abbrev pub apply_line : Production Tree
@@ -109,7 +112,8 @@ module _ (profile : Profile) where
   -- part = . [ num ] | . [ num .. num ]
   abbrev pub part_line : Production Part
   part_line =
-      line (kept (sign signs.Dot) ∷ one (sign signs.OpenSquare) ∷ plain num ∷ plain part_end ∷ []) index_of
+      line (kept (sign signs.Dot) ∷ one (sign signs.OpenSquare) ∷ plain num ∷ plain part_end ∷ [])
+      index_of
 
   -- base = reg [ expr { ; expr } ]
   abbrev pub register_line : Production Tree
@@ -136,7 +140,8 @@ module _ (profile : Profile) where
   for_line =
       line
       (
-      kept (word words.For) ∷ kept any_name ∷ one (word words.In) ∷ plain num ∷ one (sign signs.DotDot) ∷ plain num
+      kept (word words.For) ∷ kept any_name ∷ one (word words.In) ∷ plain num
+      ∷ one (sign signs.DotDot) ∷ plain num
       ∷ one (word words.Do) ∷ opening (sign signs.OpenCurly) ∷ deeper loop_item ∷ deeper loop_items
       ∷ one (sign signs.CloseCurly) ∷ one (sign signs.Semi) ∷ []
       )
@@ -150,7 +155,8 @@ module _ (profile : Profile) where
   -- In profile 1 a number is a number token, in profile 2 a sum.
   abbrev pub nums_in : Profile → List (Production (List Step))
   nums_in profiles.One = line (shared number ∷ []) (λ n. plus (digits_of n) ∷ []) ∷ []
-  nums_in profiles.Two = line (shared unit ∷ shared units ∷ []) (λ first more. plus first ∷ more) ∷ []
+  nums_in profiles.Two =
+      line (shared unit ∷ shared units ∷ []) (λ first more. plus first ∷ more) ∷ []
 
   abbrev pub lines : (k : Kind) → List (Production (KindVal k))
   -- program = main param { param } = expr
@@ -164,19 +170,22 @@ module _ (profile : Profile) where
       -- program = revs 2 main param { param } = expr
       ∷ line
       (
-      one (word words.Revs) ∷ one two ∷ one (word words.Main) ∷ shared parameter ∷ shared parameters ∷ one (sign signs.Equal)
+      one (word words.Revs) ∷ one two ∷ one (word words.Main) ∷ shared parameter ∷ shared parameters
+      ∷ one (sign signs.Equal)
       ∷ sub inside (in_profile profiles.Two expression) ∷ []
       )
       program_of ∷ []
   -- param = ( name : bool ) | ( name : bool [ number ] )
   lines parameter =
       line
-      (one (sign signs.OpenRound) ∷ kept any_name ∷ one (sign signs.Colon) ∷ one (word words.Bool) ∷ shared width ∷ [])
+      (one (sign signs.OpenRound) ∷ kept any_name ∷ one (sign signs.Colon) ∷ one (word words.Bool)
+      ∷ shared width ∷ [])
       (λ n bits. record { name = n; width = bits }) ∷ []
   lines width =
       line (one (sign signs.CloseRound) ∷ []) None
       ∷ line
-      (one (sign signs.OpenSquare) ∷ shared number ∷ one (sign signs.CloseSquare) ∷ one (sign signs.CloseRound) ∷ [])
+      (one (sign signs.OpenSquare) ∷ shared number ∷ one (sign signs.CloseSquare)
+      ∷ one (sign signs.CloseRound) ∷ [])
       (λ bits. Some bits.value) ∷ []
   lines parameters =
       line [] []
@@ -195,8 +204,10 @@ module _ (profile : Profile) where
   lines num = nums_in profile
   lines units =
       line [] []
-      ∷ line (one (sign signs.Plus) ∷ shared unit ∷ shared units ∷ []) (λ next more. plus next ∷ more)
-      ∷ line (one (sign signs.Minus) ∷ shared unit ∷ shared units ∷ []) (λ next more. minus next ∷ more) ∷ []
+      ∷ line (one (sign signs.Plus) ∷ shared unit ∷ shared units ∷ [])
+      (λ next more. plus next ∷ more)
+      ∷ line (one (sign signs.Minus) ∷ shared unit ∷ shared units ∷ [])
+      (λ next more. minus next ∷ more) ∷ []
   -- expr = fun name { name } -> expr | sum [ <- sum ]
   lines expression =
       function_line
@@ -213,13 +224,15 @@ module _ (profile : Profile) where
   lines product = line (here application ∷ here products ∷ []) and_of ∷ []
   lines products =
       line [] []
-      ∷ line (one (sign signs.And) ∷ here application ∷ here products ∷ []) (λ next more. next ∷ more) ∷ []
+      ∷ line (one (sign signs.And) ∷ here application ∷ here products ∷ [])
+      (λ next more. next ∷ more) ∷ []
   -- application = clean atom | assert atom | append atom atom | rotate num atom | atom { atom }
   lines application =
       line (kept (word words.Clean) ∷ here atom ∷ []) (λ at operand. t.clean operand at)
       ∷ line (kept (word words.Assert) ∷ here atom ∷ []) (λ at operand. t.assert operand at)
       ∷ append_line
-      ∷ line (kept (word words.Rotate) ∷ plain num ∷ here atom ∷ []) (λ at by operand. t.rotate by operand at)
+      ∷ line (kept (word words.Rotate) ∷ plain num ∷ here atom ∷ [])
+      (λ at by operand. t.rotate by operand at)
       ∷ apply_line ∷ []
   lines atoms =
       line [] []
@@ -233,7 +246,8 @@ module _ (profile : Profile) where
   lines part = part_line ∷ []
   lines part_end =
       line (one (sign signs.CloseSquare) ∷ []) None
-      ∷ line (one (sign signs.DotDot) ∷ plain num ∷ one (sign signs.CloseSquare) ∷ []) (λ j. Some j) ∷ []
+      ∷ line (one (sign signs.DotDot) ∷ plain num ∷ one (sign signs.CloseSquare) ∷ []) (λ j. Some j)
+      ∷ []
   -- base = name | true | false | reg [ expr { ; expr } ] | ( expr ) | block
   lines base =
       line (kept any_name ∷ []) t.used
@@ -247,7 +261,8 @@ module _ (profile : Profile) where
       ∷ line (opening (sign signs.OpenCurly) ∷ deeper body ∷ []) block_of ∷ []
   lines elements =
       line [] []
-      ∷ line (one (sign signs.Semi) ∷ here expression ∷ here elements ∷ []) (λ next more. next ∷ more) ∷ []
+      ∷ line (one (sign signs.Semi) ∷ here expression ∷ here elements ∷ [])
+      (λ next more. next ∷ more) ∷ []
   -- item = let name { name } = expr ; | expr ; | for name in num .. num do { item { item } } ;
   lines item = let_line ∷ loops_in profile
   lines body =

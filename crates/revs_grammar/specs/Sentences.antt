@@ -24,15 +24,16 @@ symbols l (kept m ∷ ps) = kept_token m ∷ symbols l ps
 symbols l (opening m ∷ ps) = opening_token m (l + 1) ∷ symbols l ps
 symbols l (sub d f ∷ ps) = form f (level d l) ∷ symbols l ps
 
--- Reading these tokens leads from what is expected in front of them to what is expected behind them, and each level that the
--- tokens open is one of the allowed.
+-- Reading these tokens leads from what is expected in front of them to what is expected behind
+-- them, and each level that the tokens open is one of the allowed.
 pub data Leads (allowed : ℕ → Bool) : List Symbol → List Token → List Symbol → Type 0 where
   done : {ss : List Symbol} → Leads allowed ss [] ss
   read : {m : Mark} {t : Token} {ss left : List Symbol} {ts : List Token} → code t.tok ≡ mark_code m
       → Leads allowed ss ts left → Leads allowed (token m ∷ ss) (t ∷ ts) left
   keep : {m : Mark} {t : Token} {ss left : List Symbol} {ts : List Token} → code t.tok ≡ mark_code m
       → Leads allowed ss ts left → Leads allowed (kept_token m ∷ ss) (t ∷ ts) left
-  open_level : {m : Mark} {l : ℕ} {t : Token} {ss left : List Symbol} {ts : List Token} → code t.tok ≡ mark_code m
+  open_level : {m : Mark} {l : ℕ} {t : Token} {ss left : List Symbol} {ts : List Token}
+      → code t.tok ≡ mark_code m
       → allowed l ≡ true
       → Leads allowed ss ts left → Leads allowed (opening_token m l ∷ ss) (t ∷ ts) left
   -- a form is read by one of its lines
@@ -71,7 +72,8 @@ fill l (kept m ∷ ps) b vs = fill l ps (b vs.0) vs.1
 fill l (opening m ∷ ps) b vs = fill l ps (b vs.0) vs.1
 fill l (sub d f ∷ ps) b vs = fill l ps (b vs.0) vs.1
 
--- What is expected in front of the tokens stands for this, where what is expected behind them stands for that.
+-- What is expected in front of the tokens stands for this, where what is expected behind them
+-- stands for that.
 abbrev pub value : {allowed : ℕ → Bool} {ss : List Symbol} {ts : List Token} {left : List Symbol}
     → Leads allowed ss ts left → Vals left → Vals ss
 value done vs = vs
@@ -98,8 +100,10 @@ any_level _ = true
 abbrev pub few_levels : ℕ → Bool
 few_levels level = leb level MOST_LEVELS
 
--- The tokens are the sentence of a program with these parameters and this body, and the levels that it opens are among the allowed.
-pub record IsSentenceOf (allowed : ℕ → Bool) (ts : List Token) (params : List Param) (body : Tree) : Type 0 where
+-- The tokens are the sentence of a program with these parameters and this body, and the levels that
+-- it opens are among the allowed.
+pub record IsSentenceOf (allowed : ℕ → Bool) (ts : List Token) (params : List Param)
+    (body : Tree) : Type 0 where
   pub reading : Leads allowed at_start ts []
   pub params_are : (value reading tt).0.params ≡ params
   pub body_is : (value reading tt).0.body ≡ body
@@ -129,4 +133,5 @@ pub record BeginsLow (front : List Token) : Type 0 where
 abbrev pub OneProgram : Type 0
 OneProgram =
     (allowed others : ℕ → Bool) (ts : List Token) (params more : List Param) (body term : Tree)
-    → IsSentenceOf allowed ts params body → IsSentenceOf others ts more term → (params ≡ more) × (body ≡ term)
+    → IsSentenceOf allowed ts params body → IsSentenceOf others ts more term
+    → (params ≡ more) × (body ≡ term)

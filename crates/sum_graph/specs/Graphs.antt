@@ -1,4 +1,5 @@
--- Graphs of sums: nodes that are sums of inputs, of earlier nodes, and of products of two sums of these.
+-- Graphs of sums: nodes that are sums of inputs, of earlier nodes, and of products of two sums of
+-- these.
 use Rattle.std.specs.Prelude.{◌≡◌, ℕ, ◌+◌, ◌*◌, ◌≤◌, Bool, false, List, [], length, map, nat_lt}
 use Rattle.std.specs.List.{AllByRecursion, sum_by}
 use Rattle.list_facts.specs.Bits.{bit_of}
@@ -32,8 +33,8 @@ IsKnownSum n k s = IsSumOver (is_known n k) s
 abbrev pub AreKnownSums : ℕ → ℕ → List SumView → Type 0
 AreKnownSums n k sums = AllFrom (IsKnownSum n) k sums
 
--- What a graph of sums keeps: they are of inputs and of earlier nodes, there are no nodes without outputs, and the limits
--- hold.
+-- What a graph of sums keeps: they are of inputs and of earlier nodes, there are no nodes without
+-- outputs, and the limits hold.
 pub record IsSumGraph (l : SumGraphView) : Type 0 where
   pub nodes : AreKnownSums l.inputs 0 l.nodes
   pub outputs : AllByRecursion (IsKnownSum l.inputs (length l.nodes)) l.outputs
@@ -82,9 +83,10 @@ HasFewBits sum = AllByRecursion IsProduct sum.products
 abbrev pub HasNoConstant : SumView → Type 0
 HasNoConstant sum = sum.one ≡ false
 
--- The lean graph of a settled graph: it has the inputs of that, and on every input the values of its outputs; it has no
--- more nodes, and no more products than the settled graph has ANDs; an AND that goes to one output alone is no product of
--- a node. Its nodes weigh no more than 29 for each settled one, and have no constant.
+-- The lean graph of a settled graph: it has the inputs of that, and on every input the values of
+-- its outputs; it has no more nodes, and no more products than the settled graph has ANDs; an AND
+-- that goes to one output alone is no product of a node. Its nodes weigh no more than 29 for each
+-- settled one, and have no constant.
 pub record IsLeanOf (s : SettledView) (l : SumGraphView) : Type 0 where
   pub inputs : l.inputs ≡ s.inputs
   pub outputs : length l.outputs ≡ length s.outputs

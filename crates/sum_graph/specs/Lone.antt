@@ -36,8 +36,8 @@ KeepsAlone lone k (Xor a b) =
     (is_in lone a ≡ true → lone k ≡ true) × (is_in lone b ≡ true → lone k ≡ true)
 KeepsAlone lone k (And a b) = (is_in lone a ≡ false) × (is_in lone b ≡ false)
 
--- Each node of a set goes to one output alone: it is used once at most, by an output, or by a negation or an exclusive or
--- that is of the set.
+-- Each node of a set goes to one output alone: it is used once at most, by an output, or by a
+-- negation or an exclusive or that is of the set.
 pub record GoToOneOutput (s : SettledView) (lone : ℕ → Bool) : Type 0 where
   pub once : (k : ℕ) → lone k ≡ true → times_in k (uses_in s.nodes s.outputs) ≤ 1
   pub summed : (k : ℕ) (node : Node) → slice_get s.nodes k ≡ Some node → KeepsAlone lone k node

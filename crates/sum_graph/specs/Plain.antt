@@ -29,7 +29,8 @@ plain_of s = record {
   outputs = map plain_output s.outputs;
 }
 
--- The plain graph has the values of the settled graph, and each node and output is made of the same nodes.
+-- The plain graph has the values of the settled graph, and each node and output is made of the same
+-- nodes.
 pub record IsAlike (s : SettledView) : Type 0 where
   pub outputs : (input : List Bool) → sum_outputs (plain_of s) input ≡ settled_outputs s input
   pub nodes : (input : List Bool) (k : ℕ)

@@ -11,7 +11,8 @@ use Rattle.sum_verify.specs.declared.fault.Stop.TheVariants as stops
 use Rattle.sum_verify.specs.declared.fault.SumsFault.{SumsFault}
 use Rattle.sum_verify.specs.declared.fault.SumsFault.TheVariants as faults
 
--- why a circuit is not verified; only a circuit that can be compared is left unsettled or wants memory
+-- why a circuit is not verified; only a circuit that can be compared is left unsettled or wants
+-- memory
 abbrev pub IsSumsFault : Comparison → SumsFault → Type 0
 IsSumsFault q (faults.Lines need) = (q.circuit.lines < need) × (need ≡ least_lines q)
 IsSumsFault q (faults.Gate gate) = HasEnoughLines q × IsFirstWide q.circuit.gates gate

@@ -23,7 +23,8 @@ pub record IsPassed (line : List ℕ) : Type 0 where
 
 -- ---- the parts
 
--- the program is all before the first line that parts, and the circuit all behind the line feed that ends it
+-- the program is all before the first line that parts, and the circuit all behind the line feed
+-- that ends it
 pub record IsParted (source program circuit : List ℕ) : Type 0 where
   pub lines : List (List ℕ)
   pub each : AllByRecursion IsPassed lines

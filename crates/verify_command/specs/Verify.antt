@@ -1,5 +1,5 @@
--- `verify`: that a circuit computes a program, for every input, whatever its output lines hold that they may, and whatever
--- its borrowed lines hold.
+-- `verify`: that a circuit computes a program, for every input, whatever its output lines hold that
+-- they may, and whatever its borrowed lines hold.
 use Rattle.std.specs.Prelude.{◌≡◌, ◌⊎◌, ℕ, Bool, ◌+◌, ◌<◌, ◌≤◌, List, [], ◌∷◌, length, Some, codes}
 use Rattle.circuit_commands.specs.declared.limits.TheConstants.{MOST_CIRCUIT_BYTES}
 use Rattle.circuit_commands.specs.Circuits.{ReadCircuit, Means, IsCircuitRefusal, line_count}
@@ -38,8 +38,8 @@ pub record HasParts (source : List ℕ) (OfParts : List ℕ → List ℕ → Typ
   pub parted : IsParted source program circuit
   pub holds : OfParts program circuit
 
--- the circuit that was read beside the tape of the program, from what the order lets the output lines hold, with its
--- borrowed lines
+-- the circuit that was read beside the tape of the program, from what the order lets the output
+-- lines hold, with its borrowed lines
 abbrev pub comparison_of : OrderView → TapeView → ReadCircuit → Comparison
 comparison_of order tape circuit =
     beside (of_tape tape)
@@ -61,9 +61,9 @@ pub record Compares (order : OrderView) (OfTwo : Comparison → Type 0) (program
 
 -- ---- what is written
 
--- The claims of the program hold on all inputs, and the circuit agrees with it, within the limit of lines: it is a clean
--- circuit for the program, from what the order lets the output lines hold, whose inputs come first, then the outputs, the
--- work lines and the borrowed ones.
+-- The claims of the program hold on all inputs, and the circuit agrees with it, within the limit of
+-- lines: it is a clean circuit for the program, from what the order lets the output lines hold,
+-- whose inputs come first, then the outputs, the work lines and the borrowed ones.
 pub record AreVerified (order : OrderView) (program circuit : List ℕ) : Type 0 where
   pub compared : Compares order IsVerified program circuit
   pub clean : IsCleanCircuit compared.settled.left.program order.outputs order.borrow
@@ -77,14 +77,16 @@ Gives order source written = HasParts source (AreVerified order) × (written ≡
 
 -- ---- why nothing is
 
--- the gate with this number, counted from 1, is the first that is no flip with at most two controls, all positive
+-- the gate with this number, counted from 1, is the first that is no flip with at most two
+-- controls, all positive
 pub record HasWideGate (q : Comparison) (number : ℕ) : Type 0 where
   pub enough : HasEnoughLines q
   pub before : ℕ
   pub first : IsFirstWide q.circuit.gates before
   pub count : number ≡ before + 1
 
--- the line with this number, counted from 1, is the first that differs for some bits, and these are the least of them
+-- the line with this number, counted from 1, is the first that differs for some bits, and these are
+-- the least of them
 pub record DiffersAt (q : Comparison) (number : ℕ) (bits : List Bool) : Type 0 where
   pub comparable : IsComparable q
   pub before : ℕ
@@ -97,8 +99,8 @@ HasDiagrams ways.Diagrams = Unit {0}
 HasDiagrams ways.Sums = ⊥
 HasDiagrams ways.Both = Unit {0}
 
--- Why a circuit is not verified: it has too few lines or a wide gate; by diagrams, the two have more functions than the
--- nodes, or it differs; by sums alone, it is not settled.
+-- Why a circuit is not verified: it has too few lines or a wide gate; by diagrams, the two have
+-- more functions than the nodes, or it differs; by sums alone, it is not settled.
 abbrev pub StopsComparing : OrderView → Fault → Comparison → Type 0
 StopsComparing order (FewLines lines need) q =
     (lines ≡ q.circuit.lines) × (lines < need) × (need ≡ least_lines q)
@@ -119,8 +121,8 @@ abbrev pub StopsAtClaim : OrderView → Fault → List ℕ → List ℕ → Type
 StopsAtClaim order fault program circuit =
     (read : ReadCircuit) × Means order.from circuit read × StopsSettling program order.nodes fault
 
--- Why the parts of a source are not verified, in this order: the length of the program, that of the circuit, their
--- texts, the claims, and the comparison.
+-- Why the parts of a source are not verified, in this order: the length of the program, that of the
+-- circuit, their texts, the claims, and the comparison.
 abbrev pub StopsParts : OrderView → Fault → List ℕ → List ℕ → Type 0
 StopsParts order (Refused refusals.TooLong) program circuit = MOST_BYTES < length program
 StopsParts order (Circuit circuits.TooLong) program circuit =
@@ -157,8 +159,9 @@ Serves order source =
 
 -- ---- what is promised
 
--- The fault leaves open whether the circuit agrees. The functions are counted for the steps of the tape: fewer may be
--- made, so a circuit with more may have another end; and sums may settle any circuit that agrees.
+-- The fault leaves open whether the circuit agrees. The functions are counted for the steps of the
+-- tape: fewer may be made, so a circuit with more may have another end; and sums may settle any
+-- circuit that agrees.
 abbrev pub LeavesOpen : Fault → Type 0
 LeavesOpen (CircuitDiagram limit) = Unit {0}
 LeavesOpen Unsettled = Unit {0}

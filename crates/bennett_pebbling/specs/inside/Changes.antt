@@ -123,7 +123,8 @@ pub record IsLowerFault (f : ForwardView) (lo : ℕ) (wanted : List Bool) (e : P
 
 -- ---- halves
 
--- the graph and the budget stay, and the move is within the numbers of the block, on any levels that cover the range
+-- the graph and the budget stay, and the move is within the numbers of the block, on any levels
+-- that cover the range
 pub record IsThrifty (f : ForwardView) (block lo : ℕ) (wanted : List Bool)
     (next : ForwardView) : Type 0 where
   pub graph : next.graph ≡ f.graph
@@ -138,7 +139,8 @@ pub record IsChanged (f : ForwardView) (block lo : ℕ) (wanted : List Bool)
   pub exactly : HoldsExactly f lo wanted next
   pub thrifty : IsThrifty f block lo wanted next
 
--- why they are not: the budget has less than the numbers of the block, on any levels that cover the range
+-- why they are not: the budget has less than the numbers of the block, on any levels that cover the
+-- range
 pub record IsChangeFault (f : ForwardView) (block lo : ℕ) (wanted : List Bool)
     (e : PlanFault) : Type 0 where
   pub need : HasNeed f e
@@ -157,7 +159,8 @@ pub record IsPlainFault (f : ForwardView) (lo count : ℕ) (e : PlanFault) : Typ
   pub short : IsShort f (length f.graph.nodes) count e
   pub heavy : IsHeavy f (prices toggle_weight f.graph lo count) e
 
--- the wanted nodes are held, and outside the range nothing is changed; within one block each node is toggled at most once
+-- the wanted nodes are held, and outside the range nothing is changed; within one block each node
+-- is toggled at most once
 pub record IsRisen (f : ForwardView) (block lo : ℕ) (wanted : List Bool)
     (next : ForwardView) : Type 0 where
   pub inside : (k : ℕ) → bit_of wanted k ≡ true → is_held next.lines (lo + k) ≡ true

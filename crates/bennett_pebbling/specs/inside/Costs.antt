@@ -37,7 +37,8 @@ IsHeavy f weight (Memory _) = ⊤
 
 -- ---- moves
 
--- at most so many toggles, by which never more nodes are held than the reach, or than were before, or than there are
+-- at most so many toggles, by which never more nodes are held than the reach, or than were before,
+-- or than there are
 pub record IsMove (f : ForwardView) (reach toggles : ℕ) (next : ForwardView) : Type 0 where
   pub graph : next.graph ≡ f.graph
   pub budget : next.budget ≡ f.budget

@@ -61,8 +61,8 @@ pub data IsNeeded (s : SumGraphView) (lo : ℕ) (start : List Bool) : ℕ → Ty
   rested_on : (k j : ℕ) → IsNeeded s lo start k → RestsOn s (lo + k) (lo + j)
       → IsNeeded s lo start j
 
--- the marked nodes and all nodes of the range on which they rest are marked, and nothing else; the last node has the
--- mark that it had
+-- the marked nodes and all nodes of the range on which they rest are marked, and nothing else; the
+-- last node has the mark that it had
 pub record AreNeeds (s : SumGraphView) (lo : ℕ) (start marks : List Bool) : Type 0 where
   pub count : length marks ≡ length start
   pub more : (k : ℕ) → bit_of start k ≡ true → bit_of marks k ≡ true

@@ -1,4 +1,5 @@
--- The fault of a command for each fault of a reader. Want of memory comes from want of memory alone.
+-- The fault of a command for each fault of a reader. Want of memory comes from want of memory
+-- alone.
 use Rattle.real_format.specs.declared.file.RealFault.{RealFault}
 use Rattle.real_format.specs.declared.file.RealFault.TheVariants as reals
 use Rattle.qasm_format.specs.declared.file.QasmFault.{QasmFault}

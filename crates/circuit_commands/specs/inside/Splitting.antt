@@ -23,7 +23,8 @@ pub record IsWritable (made : ConvertedView) : Type 0 where
   pub placed : AreGatesOn (line_count made.circuit) made.circuit.gates
   pub few_gates : length made.circuit.gates ≤ MOST_GATES
 
--- these are the gates of the split list of at most so many, on the circuit's own lines or on one more
+-- these are the gates of the split list of at most so many, on the circuit's own lines or on one
+-- more
 pub record IsNarrowOf (most : ℕ) (circuit : ReadCircuit) (narrow : CircuitView) : Type 0 where
   pub added : Bool
   pub lines : narrow.lines ≡ line_count circuit + added_lines added

@@ -12,8 +12,7 @@ use Rattle.circuit_tidy.specs.declared.blocks.Longer.{Longer}
 use Rattle.circuit_tidy.specs.declared.blocks.TheConstants.{MOST_BLOCK_LINES}
 use Rattle.flip_lists.specs.declared.flip.Flip.{Flip}
 use Rattle.circuit_tidy.specs.Blocks.{AreBlocks, IsBlock, IsNoLonger, elimination_of, one_line}
-use Rattle.flip_lists.specs.Flips.{is_cx}
-use Rattle.flip_lists.specs.Flips.{gate_of, touches}
+use Rattle.flip_lists.specs.Flips.{gate_of, is_cx, touches}
 
 abbrev pub AreOnLines : ℕ → List Flip → Type 0
 AreOnLines n flips = AllByRecursion (λ flip. IsGateOn n (gate_of flip)) flips

@@ -99,8 +99,8 @@ abbrev pub held_numbers : Start → ℕ → ℕ → List ℕ → List ℕ
 held_numbers Any outputs never behind = take outputs behind
 held_numbers Zero outputs never behind = replicate outputs never
 
--- numbers of all lines: whatever those of the output lines stand for, the others stand for the inputs, zeros on the work
--- lines, and what the borrowed lines hold
+-- numbers of all lines: whatever those of the output lines stand for, the others stand for the
+-- inputs, zeros on the work lines, and what the borrowed lines hold
 pub record AreLaid (q : Comparison) (nodes : List Triple) (outputs lines : List ℕ) : Type 0 where
   pub are : (value : List Bool → List Bool) → AreNumbersOf q nodes outputs value
       → AreNumbersOf q nodes lines (λ bits. input_bits q bits ++ (value bits

@@ -43,8 +43,8 @@ IsKnownValue s k (Some p) = IsKnownPolynomial s k p
 abbrev pub last_use_of : SettledView → ℕ → ℕ
 last_use_of s k = last_use_in (as_graph s) k
 
--- These are the values of the first `count` nodes. What stands for a node that is no output and that no later node uses
--- is left open.
+-- These are the values of the first `count` nodes. What stands for a node that is no output and
+-- that no later node uses is left open.
 pub record AreFirstValues (s : SettledView) (count : ℕ)
     (known : List (Option Polynomial)) : Type 0 where
   pub one_each : length known ≡ count

@@ -41,8 +41,8 @@ abbrev pub cleaning_gates : ℕ → Option Polynomial → ℕ
 cleaning_gates n None = 2
 cleaning_gates n (Some p) = 2 + length p * (10 * n + 1)
 
--- the most gates that were put for a node so far, where its cleaning takes at most so many: it was made, and cleaned if
--- it is not held any more
+-- the most gates that were put for a node so far, where its cleaning takes at most so many: it was
+-- made, and cleaned if it is not held any more
 abbrev pub paid_gates : ℕ → List (Option ℕ) → ℕ → ℕ
 paid_gates cost lines k = if is_held lines k then 2 else 2 + cost
 
@@ -70,9 +70,10 @@ pub record IsWaiting (s : SettledView) (count : ℕ) (used : List Base) (k : ℕ
   pub last : last_use_of s k + 1 ≡ count
   pub among : IsAmong (bases.Node k) used
 
--- The first `count` nodes were gone through, and what the last of them uses for the last time may still be held where
--- it is in `used`. The nodes of later last use are held, no node behind these is, and where no node is large no other
--- node is. No more gates were put than the nodes so far may cost.
+-- The first `count` nodes were gone through, and what the last of them uses for the last time may
+-- still be held where it is in `used`. The nodes of later last use are held, no node behind these
+-- is, and where no node is large no other node is. No more gates were put than the nodes so far may
+-- cost.
 pub record IsSwept (s : SettledView) (b : BudgetView) (count : ℕ) (used : List Base)
     (f : ForwardView) : Type 0 where
   pub settled : IsSettled s

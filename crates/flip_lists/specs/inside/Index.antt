@@ -1,5 +1,5 @@
--- A list of flips with an index: each flip has a slot, which is emptied where it goes out; for each line there are the places
--- of the flips with that target, and of those with that control.
+-- A list of flips with an index: each flip has a slot, which is emptied where it goes out; for each
+-- line there are the places of the flips with that target, and of those with that control.
 use Rattle.std.specs.Prelude.{◌≡◌, ℕ, zero, suc, ◌+◌, ◌<◌, ◌≤◌, ◌⊎◌, ◌==◌, Bool, true, false, if◌then◌else◌, Option, Some, None, List, [], ◌∷◌, ◌++◌, length}
 use Rattle.std.specs.Prelude.{map, slice_index_or}
 use Rattle.std.specs.List.{AllByRecursion}

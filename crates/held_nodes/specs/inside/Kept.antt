@@ -44,7 +44,8 @@ pub record IsKept (f : ForwardView) (most_weight : ℕ) (heap : HeapView) : Type
   pub weights : most_weight ≡ f.budget.gates / 2
   pub few : f.budget.lines ≤ MOST_LINES
 
--- an output's sum can be added to any output line: the lines of its bases can be told, are different, and none is that
+-- an output's sum can be added to any output line: the lines of its bases can be told, are
+-- different, and none is that
 pub record CanCopy (first : ℕ) (lines : List (Option ℕ)) (inputs : ℕ) (s : SumView) : Type 0 where
   pub placed : AllByRecursion (IsPlacedBase first lines) (bases_of s)
   pub apart : (target : ℕ) → inputs ≤ target → target < first

@@ -1,4 +1,5 @@
--- The machine that runs a program without bits: its environments in one list, in the order in which they were made.
+-- The machine that runs a program without bits: its environments in one list, in the order in which
+-- they were made.
 use Rattle.std.specs.Prelude.{◌≡◌, ℕ, zero, suc, ◌+◌, ◌-◌, ◌≤◌, ◌==◌, if◌then◌else◌, slice_get, Option, Some}
 use Rattle.std.specs.Prelude.{None, List, [], ◌∷◌, ◌++◌, length, drop, take, map, sum, option_map, slice_index_or}
 use Rattle.std.specs.Prelude.{⊤}
@@ -86,7 +87,8 @@ abbrev pub leap_behind : List Binding → Option Leap → Option Leap
 leap_behind bindings None = None
 leap_behind bindings (Some near) = leap_at bindings near.to
 
--- two leaps, one behind the other, are one where both pass equally many bindings; else the leap stays
+-- two leaps, one behind the other, are one where both pass equally many bindings; else the leap
+-- stays
 abbrev pub joined_leap : ℕ → Option Leap → Option Leap → Leap
 joined_leap env None next = record { to = env; passed = 0 }
 joined_leap env (Some near) None = record { to = env; passed = 0 }
@@ -162,7 +164,8 @@ AreWorkedFor ahead old now = length now.bindings.items + old.work ≤ length old
 
 -- So many units of work were added, and no bindings.
 abbrev pub AddsWork : ℕ → Machine → Machine → Type 0
-AddsWork count old now = length now.bindings.items + old.work + count ≤ length old.bindings.items + now.work
+AddsWork count old now =
+    length now.bindings.items + old.work + count ≤ length old.bindings.items + now.work
 
 -- More units of work were added than bindings.
 abbrev pub LeavesRoom : Machine → Machine → Type 0

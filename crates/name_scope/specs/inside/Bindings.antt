@@ -1,4 +1,5 @@
--- How the names in scope are kept: each with the depth of the one that it hides, and for each name the depth of the nearest one.
+-- How the names in scope are kept: each with the depth of the one that it hides, and for each name
+-- the depth of the nearest one.
 use Rattle.std.specs.Prelude.{◌≡◌, ℕ, Option, Some, None, List, [], ◌∷◌, length, bytes_eq, if◌then◌else◌}
 use Rattle.name_scope.specs.declared.names.Bound.{Bound}
 

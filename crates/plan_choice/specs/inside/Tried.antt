@@ -30,7 +30,8 @@ is_refusal (Err (Memory _)) = false
 
 -- ---- the split of a plan
 
--- The plan with its gates split, and the borrowed lines of the budget, is within the budget, and adds what the plan does.
+-- The plan with its gates split, and the borrowed lines of the budget, is within the budget, and
+-- adds what the plan does.
 pub record IsLaidOf (p : PlannedView) (b : BudgetView) (laid : LaidView) : Type 0 where
   pub inputs : laid.inputs ≡ p.inputs
   pub outputs : laid.outputs ≡ p.outputs
@@ -119,7 +120,8 @@ better_of ready (Err (Lines need)) = Ok ready
 better_of ready (Err Gates) = Ok ready
 better_of ready (Err (Memory _)) = Err (Memory _)
 
--- the better plan where both fit, and the one that fits where one does; else the refusal of the second
+-- the better plan where both fit, and the one that fits where one does; else the refusal of the
+-- second
 abbrev pub best_of : Result LaidView PlanFault → Result LaidView PlanFault
     → Result LaidView PlanFault
 best_of (Ok ready) pebbling = better_of ready pebbling
@@ -129,7 +131,8 @@ best_of (Err (Memory _)) pebbling = Err (Memory _)
 
 -- ---- the best of several plans
 
--- fewer flips under two lines; of as many, the smaller product of lines and gates; of as many, fewer lines
+-- fewer flips under two lines; of as many, the smaller product of lines and gates; of as many,
+-- fewer lines
 abbrev pub is_smaller : LaidView → LaidView → Bool
 is_smaller p q =
     if toffoli p == toffoli q
@@ -138,7 +141,8 @@ is_smaller p q =
     else nat_lt (area p) (area q))
     else nat_lt (toffoli p) (toffoli q)
 
--- the found plan where it is smaller than what was tried, or that was refused; want of memory passes on
+-- the found plan where it is smaller than what was tried, or that was refused; want of memory
+-- passes on
 abbrev pub smaller_of : Result LaidView PlanFault → LaidView → Result LaidView PlanFault
 smaller_of (Ok laid) found = Ok (if is_smaller found laid then found else laid)
 smaller_of (Err (Lines need)) found = Ok found

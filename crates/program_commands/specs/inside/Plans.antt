@@ -35,8 +35,8 @@ pub record IsCleanPlan (start : Start) (laid : LaidView) (p : ProgramView) (b : 
   pub most_lines : b.lines ≤ MOST_LINES
   pub most_gates : b.gates ≤ MOST_GATES
 
--- a plan of the settled graph that is allowed, within the budget: its gates are narrow, and on its lines, which are
--- those of its roles
+-- a plan of the settled graph that is allowed, within the budget: its gates are narrow, and on its
+-- lines, which are those of its roles
 pub record IsPlanOf (how : How) (graph : SettledView) (b : BudgetView) (laid : LaidView)
     : Type 0 where
   pub is : IsLaidFor (start_of how) graph b laid
@@ -45,8 +45,8 @@ pub record IsPlanOf (how : How) (graph : SettledView) (b : BudgetView) (laid : L
   pub on : AreGatesOn laid.circuit.lines laid.circuit.gates
   pub narrow : AreNarrow laid.circuit.gates
 
--- The plan is a circuit for the text that the order allows, and it may be written: its gates are on its lines, which are
--- those of its roles.
+-- The plan is a circuit for the text that the order allows, and it may be written: its gates are on
+-- its lines, which are those of its roles.
 pub record IsPlannedFor (order : OrderView) (text : List ℕ) (tape : TapeView) (laid : LaidView)
     : Type 0 where
   pub circuit : HasCircuit order text tape (roles_of laid) laid.circuit.gates
@@ -77,7 +77,8 @@ pub record IsRunFault (bound : ProgramView) (fault : Fault) : Type 0 where
   pub is : fault ≡ run_fault why
   pub stuck : IsRefused bound.params bound.body why
 
--- why a word gives no input of so many bits, or there was no memory left, which is asked for only where it gives one
+-- why a word gives no input of so many bits, or there was no memory left, which is asked for only
+-- where it gives one
 abbrev pub IsBitsFault : ℕ → List ℕ → Fault → Type 0
 IsBitsFault inputs word (BadBits number) = (number ≡ 1) × (¬ IsInputWord inputs word)
 IsBitsFault inputs word (Memory _) = IsInputWord inputs word

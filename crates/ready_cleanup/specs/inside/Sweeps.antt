@@ -26,8 +26,9 @@ all_paid price s lines (suc k) =
 
 -- ---- between two nodes
 
--- The first `count` nodes were gone through: those that are used later are held, and no node behind them is. All gates
--- are toggles, at most two of each of these nodes; never more nodes were held than there are.
+-- The first `count` nodes were gone through: those that are used later are held, and no node behind
+-- them is. All gates are toggles, at most two of each of these nodes; never more nodes were held
+-- than there are.
 pub record IsSwept (s : SumGraphView) (b : BudgetView) (count : ℕ) (f : ForwardView) : Type 0 where
   pub forward : IsForward f
   pub graph : f.graph ≡ s

@@ -1,4 +1,5 @@
--- The reader as functions on lists of words: what each line adds, and what the lines that are left give.
+-- The reader as functions on lists of words: what each line adds, and what the lines that are left
+-- give.
 use Rattle.std.specs.Prelude.{◌==◌, ℕ, ◌+◌, ◌-◌, nat_lt, nat_le, Bool, true, false, not, ◌&&◌, ◌||◌, if◌then◌else◌, List, [], ◌∷◌, ◌++◌, length, map, replicate}
 use Rattle.std.specs.Prelude.{codes, drop, position, ◌≡◌, Option, Some, None, unwrap_or, Result, Ok, Err}
 use Rattle.std.specs.Option.{is_some}

@@ -14,7 +14,8 @@ pub record AreStamped (stamps : List ℕ) (stamp : ℕ) (lines : List ℕ) : Typ
       → is_stamped stamps stamp line ≡ has_line line lines
   pub few : AllByRecursion (λ s. s ≤ stamp) stamps
 
--- a circuit with a line for each name, and for each line a stamp, no greater than the number of gates
+-- a circuit with a line for each name, and for each line a stamp, no greater than the number of
+-- gates
 pub record FitsNames (names : List (List ℕ)) (circuit : CircuitView)
     (stamps : List ℕ) : Type 0 where
   pub few : length names ≤ MOST_LINES

@@ -43,7 +43,8 @@ pub record IsUnreadFor (limit : Option TextLimit) (source : Device) (fault : Fau
 
 -- ---- the end
 
--- a fault that rests on the text has its cause there; the words, the devices and memory are no matter of the text
+-- a fault that rests on the text has its cause there; the words, the devices and memory are no
+-- matter of the text
 abbrev pub IsCausedBy : Fault → OrderView → List ℕ → Type 0
 IsCausedBy Usage order text = Unit {0}
 IsCausedBy Read order text = Unit {0}

@@ -1,4 +1,5 @@
--- The fault of the program for each fault of reading words and texts. Want of memory comes from want of memory alone.
+-- The fault of the program for each fault of reading words and texts. Want of memory comes from
+-- want of memory alone.
 use Rattle.revc_io.specs.declared.reading.ReadFault.{ReadFault}
 use Rattle.revc_io.specs.declared.reading.ReadFault.TheVariants as reads
 use Rattle.command_answers.specs.declared.fault.Fault.{Fault}

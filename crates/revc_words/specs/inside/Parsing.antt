@@ -39,8 +39,8 @@ command_named name = find (λ command. bytes_eq (name_of command) name) ALL
 
 -- ---- positional words
 
--- what positional words a command asks for: how many there may be, whether a number is among them, and whether a kind
--- of programs is
+-- what positional words a command asks for: how many there may be, whether a number is among them,
+-- and whether a kind of programs is
 record Asked : Type 0 where
   pub count : ℕ → Bool
   pub number : Bool

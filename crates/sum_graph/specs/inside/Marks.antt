@@ -56,7 +56,8 @@ IsMark times Never = times ≡ 0
 IsMark times Once = times ≡ 1
 IsMark times Shared = ⊤
 
--- the marks tell how often each node stands in these uses; these factors are shared, and else what is used twice
+-- the marks tell how often each node stands in these uses; these factors are shared, and else what
+-- is used twice
 pub record AreMarked (uses wanted : List ℕ) (marks : List Use) : Type 0 where
   pub each : (k : ℕ) → IsMark (times_in k uses) (mark_at marks k)
   pub factors : AllByRecursion (λ k. mark_at marks k ≡ Shared) wanted

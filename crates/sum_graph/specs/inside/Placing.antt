@@ -1,4 +1,5 @@
--- Where the sum of a node is placed: in a slot that is moved from, as a factor, or as a node of the lean graph.
+-- Where the sum of a node is placed: in a slot that is moved from, as a factor, or as a node of the
+-- lean graph.
 use Rattle.std.specs.Prelude.{◌≡◌, ◌⊎◌, ℕ, Bool, true, false, List, [], ◌∷◌, ◌++◌, Some, slice_get}
 use Rattle.dependency_graph.specs.declared.node.Base.TheVariants as bases
 use Rattle.bit_sums.specs.Growing.{FactorView, IsFinished, sum_of_factor}

@@ -1,4 +1,5 @@
--- The walk over a settled graph: where the sum of each node stands, and which uses of nodes are still to come.
+-- The walk over a settled graph: where the sum of each node stands, and which uses of nodes are
+-- still to come.
 use Rattle.std.specs.Prelude.{◌≡◌, ◌≢◌, ◌⊎◌, ℕ, ◌+◌, ◌*◌, ◌<◌, ◌≤◌, Bool, true, false, not, List, [], ◌∷◌, length, drop, map, take}
 use Rattle.std.specs.Prelude.{Some, slice_get, slice_index_or, slice_set, ⊤}
 use Rattle.std.specs.List.{AllByRecursion, flat_map, sum_by}
@@ -33,7 +34,8 @@ is_shared shared k = slice_index_or shared k true
 abbrev pub AreNoFactors : (ℕ → Bool) → List Node → Type 0
 AreNoFactors lone nodes = AllByRecursion (λ k. lone k ≡ false) (flat_map factors_of nodes)
 
--- A node that is not shared is used once at most, and is no factor; and each such node is not shared.
+-- A node that is not shared is used once at most, and is no factor; and each such node is not
+-- shared.
 pub record AreShared (nodes : List Node) (outputs : List Sig) (shared : List Bool) : Type 0 where
   pub long : length shared ≡ length nodes
   pub once : (k : ℕ) → is_shared shared k ≡ false → times_in k (uses_in nodes outputs) ≤ 1
@@ -50,7 +52,8 @@ pub record StandsFor (s : SettledView) (nodes : List SumView) (base : Base) (sum
   pub known : IsKnownSum s.inputs (length nodes) sum
   pub values : (input : List Bool) → sum_on nodes input sum ≡ settled_value s input (Is base)
 
--- a sum that was moved is not used any more; one that stands is a factor exactly where the node is shared
+-- a sum that was moved is not used any more; one that stands is a factor exactly where the node is
+-- shared
 abbrev pub IsSlot : SettledView → List SumView → List Bool → List ℕ → ℕ → Slot → Type 0
 IsSlot s nodes shared left k slots.Moved = times_in k left ≡ 0
 IsSlot s nodes shared left k (slots.Sum sum) = StandsFor s nodes (bases.Node k) sum
@@ -158,8 +161,9 @@ IsNodeSum (And a b) = IsAnd a b
 
 -- ---- the walk
 
--- What the walk keeps: each node so far has a slot, the nodes of the lean graph are known, and both count no more than the
--- nodes that were walked over, also beside nodes that go to one output alone.
+-- What the walk keeps: each node so far has a slot, the nodes of the lean graph are known, and both
+-- count no more than the nodes that were walked over, also beside nodes that go to one output
+-- alone.
 pub record IsWalked (s : SettledView) (shared : List Bool) (some : List Slot) (nodes : List SumView)
     (k : ℕ) : Type 0 where
   pub settled : IsSettled s

@@ -1,4 +1,5 @@
--- The fault of the command for each fault of a comparison. Want of memory comes from want of memory alone.
+-- The fault of the command for each fault of a comparison. Want of memory comes from want of memory
+-- alone.
 use Rattle.std.specs.Prelude.{◌+◌, ◌<◌, length}
 use Rattle.circuit_verify.specs.declared.fault.VerifyFault.{VerifyFault}
 use Rattle.circuit_verify.specs.declared.fault.VerifyFault.TheVariants as faults

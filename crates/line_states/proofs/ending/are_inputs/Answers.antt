@@ -14,6 +14,7 @@ pub returns-then-not-is_alone : goal.returns-then-not-is_alone
 returns-then-not-is_alone c = (
   λ t. absurd (false≢true t),
   λ all.
-      (let here = from_at (λ k (set : List Base). set ≡ bases.Input k ∷ []) 0 c.loop-i.i c.loop-i.i c.args.sets.now c.index-sets-i.result (omega arith) c.loop-i-test.true all in
+      (let here = from_at (λ k (set : List Base). set ≡ bases.Input k ∷ []) 0 c.loop-i.i c.loop-i.i c.args.sets.now c.index-sets-i.result
+      (omega arith) c.loop-i-test.true all in
       sym c.if-not-is_alone.true ∙ c.is_alone.ensures.1 (c.items.ensures ∙ c.index-sets-i.is ∙ here)),
 )

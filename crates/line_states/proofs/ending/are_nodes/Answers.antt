@@ -15,6 +15,7 @@ pub returns-then-not-is_alone : goal.returns-then-not-is_alone
 returns-then-not-is_alone c = (
   λ t. absurd (false≢true t),
   λ all.
-      (let here = from_at (λ k (set : List Base). set ≡ bases.Node k ∷ []) c.args.first (c.args.first + c.loop-k.k) c.loop-k.k c.args.sets.now c.index-sets-k.result refl c.loop-k-test.true all in
+      (let here = from_at (λ k (set : List Base). set ≡ bases.Node k ∷ []) c.args.first
+      (c.args.first + c.loop-k.k) c.loop-k.k c.args.sets.now c.index-sets-k.result refl c.loop-k-test.true all in
       sym c.if-not-is_alone.true ∙ c.is_alone.ensures.1 (c.items.ensures ∙ c.index-sets-k.is ∙ here)),
 )

@@ -8,7 +8,8 @@ loop-turn-init c =
     let goes = c.in_ok-give_way.ensures in
     let stays = takes_stays c.args.first.now.start begun c.take.new.self
     (omega (arith, c.requires.begun.start, c.requires.longer.ordered, c.requires.longer.within)) c.in_ok-take.ensures in
-    (goes.within, swept_first begun.flips.items c.take.new.self c.give_way.new.self (same_contents begun.flips.items begun c.take.new.self c.requires.begun stays) goes)
+    let same = same_contents begun.flips.items begun c.take.new.self c.requires.begun stays in
+    (goes.within, swept_first begun.flips.items c.take.new.self c.give_way.new.self same goes)
 
 pub loop-turn-preserved : goal.loop-turn-preserved
 loop-turn-preserved c =
