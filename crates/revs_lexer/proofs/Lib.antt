@@ -1,5 +1,6 @@
 pub mod CutLemmas
 pub mod FirstByteLemmas
+pub mod LineLemmas
 pub mod LongestLemmas
 pub mod OutcomeLemmas
 pub mod PackedLemmas

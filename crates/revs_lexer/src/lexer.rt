@@ -6,7 +6,8 @@ ghost use Rattle.std.specs.List.{find, starts_with};
 ghost use Rattle.std.specs.Str.{bytes_eq};
 ghost use Rattle.revc_base.specs.declared.limits.TheConstants.{MOST_NAME_BYTES};
 ghost use Rattle.text_places.specs.Gaps.{HasNoGap};
-ghost use Rattle.revs_lexer.specs.inside.Pieces.{TakesFrom, StandsSo};
+ghost use Rattle.text_places.specs.Places.{place_after};
+ghost use Rattle.revs_lexer.specs.inside.Pieces.{TakesFrom, StandsSo, HasNoLineFeed};
 ghost use Rattle.revs_lexer.specs.Kinds.{tok_of};
 ghost use Rattle.revs_lexer.specs.Spelling.{word_text, sign_text, is_identifier, Spells};
 ghost use Rattle.revs_lexer.specs.Spelling.{IsWithinLimits};
@@ -167,6 +168,27 @@ fn take_piece(
     Ok(len)
 }
 
+// The place behind a piece of a text that stands at a place. Only a piece of one byte may be a line
+// feed.
+fn place_behind(at: Place, piece: &[u8]) -> Place
+    requires one_line { 1 < length piece.now → HasNoLineFeed piece.now }
+    requires line { 1 ≤ at.line }
+    requires column { 1 ≤ at.column }
+    requires room { at.line + at.column + length piece.now ≤ 2 ^ 32 }
+    ensures place { result ≡ place_after at piece.now }
+    ensures line { 1 ≤ result.line }
+    ensures column { 1 ≤ result.column }
+    ensures room { result.line + result.column ≤ at.line + at.column + length piece.now }
+{
+    if piece.len() > 1 {
+        return Place {
+            line: at.line,
+            column: at.column + piece.len() as u32,
+        };
+    }
+    place_after(at, piece)
+}
+
 // The tokens or the first refusal.
 fn cut<'t>(alloc: Global, text: &'t [u8]) -> Result<TokenList<'t>, LexFault>
     requires { length text.now + 1 < 2 ^ 32 }
@@ -182,7 +204,7 @@ fn cut<'t>(alloc: Global, text: &'t [u8]) -> Result<TokenList<'t>, LexFault>
     while !rest.is_empty() {
         let len = take_piece(&mut packed, rest, start, at)?;
         let (piece, left) = rest.split_at(len);
-        at = place_after(at, piece);
+        at = place_behind(at, piece);
         start += len as u32;
         rest = left;
     }

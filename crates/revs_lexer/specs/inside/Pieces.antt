@@ -1,5 +1,7 @@
 -- What taking a piece off the front of a text does.
-use Rattle.std.specs.Prelude.{◌≡◌, ◌⊎◌, ◌≤◌, ℕ, List, [], ◌∷◌, ◌++◌, take, drop}
+use Rattle.std.specs.Prelude.{◌≡◌, ◌⊎◌, ◌≤◌, ℕ, List, [], ◌∷◌, ◌++◌, take, drop, not, IsTrue}
+use Rattle.std.specs.List.{list_all}
+use Rattle.text_places.specs.Bytes.{is_line_feed}
 use Rattle.revc_base.specs.declared.limits.TheConstants.{MOST_NAME_BYTES}
 use Rattle.revc_base.specs.declared.place.Place.{Place}
 use Rattle.revs_lexer.specs.Spelling.{IsWithinLimits}
@@ -27,6 +29,10 @@ pub record TakesToken (at : Place) (text : List ℕ) (len : ℕ) (old new : List
 -- The first bytes of a text that stands at a place are taken off it.
 abbrev pub Takes : Place → List ℕ → ℕ → List Token → List Token → Type 0
 Takes at text len old new = TakesGap text len old new ⊎ TakesToken at text len old new
+
+-- No byte is a line feed.
+abbrev pub HasNoLineFeed : List ℕ → Type 0
+HasNoLineFeed bytes = IsTrue (list_all (λ b. not (is_line_feed b)) bytes)
 
 -- A name of so many bytes begins at this byte of the text, if this kind is one.
 abbrev pub StandsSo : ℕ → ℕ → Kind → Type 0

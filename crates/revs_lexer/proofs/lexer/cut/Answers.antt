@@ -4,6 +4,7 @@ use Rattle.std.proofs.lemmas.List.{nil_from_length, drop-drop}
 use Rattle.revs_lexer.specs.inside.Packed.{tokens_of}
 use Rattle.revs_lexer.proofs.CutLemmas.{Underway, underway_past, underway_at_end, underway_at_refusal, closed_at_end}
 use Rattle.revs_lexer.proofs.PackedLemmas.{ends_packed, within-push}
+use Rattle.revs_lexer.proofs.LineLemmas.{piece_line}
 use Rattle.revs_lexer.proofs.lexer.cut.Goals as goal
 use Rattle.revs_lexer.proofs.lexer.cut.Goals.{After-new}
 use Rattle.revc_base.proofs.ResultLemmas.{passes_on}
@@ -20,15 +21,15 @@ loop-rest-preserved c =
     let parts = c.split_at.ensures in
     let taken = c.in_ok-len.ensures.taken.in_whole c.args.text.now c.loop-rest.invariant.end in
     record {
-      underway = rw (c.place_after-at.ensures.place, parts.front, parts.back)
+      underway = rw (c.place_behind-at.ensures.place, parts.front, parts.back)
           (underway_past c.args.text.now _ _ c.loop-rest.at c.loop-rest.rest.now c.in_ok-len.len
           c.loop-rest.invariant.underway taken.takes);
       within = taken.within c.loop-rest.invariant.within;
       end = sym (drop-drop c.in_ok-len.len c.loop-rest.start c.args.text.now) ∙ ap (drop c.in_ok-len.len) c.loop-rest.invariant.end ∙ sym parts.back;
       passed = omega (arith, parts.back_len, c.loop-rest.invariant.passed);
-      line = c.place_after-at.ensures.line;
-      column = c.place_after-at.ensures.column;
-      room = omega (arith, c.place_after-at.ensures.room, parts.front_len, parts.back_len, c.loop-rest.invariant.room);
+      line = c.place_behind-at.ensures.line;
+      column = c.place_behind-at.ensures.column;
+      room = omega (arith, c.place_behind-at.ensures.room, parts.front_len, parts.back_len, c.loop-rest.invariant.room);
     }
 
 -- nothing is left
@@ -48,3 +49,8 @@ returns-clause-tokens c =
 
 pub new-requires : goal.new-requires
 new-requires c = rw c.in_ok-push.ensures.items (within-push c.args.text.now c.loop-rest.packed.items _ c.loop-rest.invariant.within tt)
+
+pub place_behind-at-requires-clause-one_line : goal.place_behind-at-requires-clause-one_line
+place_behind-at-requires-clause-one_line c =
+    let taken = c.in_ok-len.ensures.taken.in_whole c.args.text.now c.loop-rest.invariant.end in
+    rw c.split_at.ensures.front (piece_line c.loop-rest.at c.loop-rest.rest.now c.in_ok-len.len _ _ taken.takes)
