@@ -34,20 +34,21 @@ fn show_first(out: &mut String, tokens: Rest, kind: Kind) -> Result<(), Fail> {
 
 // The place of the first token, and how it reads.
 fn show(out: &mut String, tokens: Rest) -> Result<(), Fail> {
-    let Some((kind, at, _)) = tokens.split_first() else {
+    let Some((first, _)) = tokens.split_first() else {
         return Ok(());
     };
-    let line = at.line;
-    let column = at.column;
+    let line = first.at.line;
+    let column = first.at.column;
     write!(out, "{line}:{column} ")?;
-    show_first(out, tokens, kind)?;
+    show_first(out, tokens, first.kind)?;
     Ok(out.push_str(", ")?)
 }
 
 fn shown(alloc: Global, list: &TokenList) -> Result<String, Fail> {
     let mut out = String::new(alloc);
-    for from in 0..list.len() {
-        show(&mut out, Rest { list, from })?;
+    let all = list.all();
+    for from in 0..all.len() {
+        show(&mut out, Rest { from, ..all })?;
     }
     Ok(out)
 }

@@ -1,17 +1,17 @@
 -- Pieces of more than one byte stand on one line.
-use Rattle.std.proofs.Common.{◌≡◌, ℕ, ◌+◌, ◌≤◌, ◌<◌, Bool, true, false, not, IsTrue, List, [], ◌∷◌, ◌++◌, length, take, drop, refl, sym, ap, ◌∙◌, subst, ⊎_elim}
+use Rattle.std.proofs.Common.{◌≡◌, ℕ, ◌+◌, ◌<◌, Bool, true, false, not, List, [], ◌∷◌, length, take, drop, refl, sym, ap, ◌∙◌, subst, ⊎_elim}
 use Rattle.std.proofs.Common.{arith}
 use Rattle.std.specs.List.{list_all}
 use Rattle.std.specs.Char.{is_ascii_digit}
 use Rattle.std.proofs.lemmas.Bool.{and_from, and_parts, eqb-true}
 use Rattle.revc_base.specs.declared.place.Place.{Place}
-use Rattle.text_places.specs.Bytes.{is_line_feed, is_letter, is_name_byte}
+use Rattle.text_places.specs.Bytes.{is_line_feed, is_name_byte}
 use Rattle.text_places.specs.Gaps.{IsGap}
 use Rattle.text_places.specs.Gaps as gaps
 use Rattle.text_places.specs.Places.{place_behind, place_after}
 use Rattle.text_places.proofs.DigitLemmas.{all_digits}
 use Rattle.revs_lexer.proofs.FirstByteLemmas.{identifier_goes_on}
-use Rattle.revs_lexer.specs.Spelling.{word_text, sign_text, is_identifier, Spells}
+use Rattle.revs_lexer.specs.Spelling.{word_text, sign_text, Spells}
 use Rattle.revs_lexer.specs.declared.sign.Sign.{Sign}
 use Rattle.revs_lexer.specs.declared.sign.Sign.TheVariants as signs
 use Rattle.revs_lexer.specs.declared.token.Tok.{Tok}

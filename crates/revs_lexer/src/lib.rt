@@ -11,7 +11,7 @@ mod token;
 mod word;
 
 pub use lexer::{MOST_DIGITS, limits_are, one_outcome, some_outcome, tokens};
-pub use packed::{Rest, TokenList};
+pub use packed::{Packed, Rest, TokenList};
 pub use sign::Sign;
 pub use token::{Kind, LexFault, Tok, Token};
 pub use word::Word;

@@ -94,17 +94,16 @@ impl<'t> Rest<'t> {
         *list.packed.allocator()
     }
 
-    /// The kind and the place of the first token, and the tokens behind it.
-    pub fn split_first(self) -> Option<(Kind, Place, Rest<'t>)>
-        ensures found { IfSome result (λ first. Begins (left self.entry) first.0 first.1
-            (left first.2)) }
+    /// The first token, and the tokens behind it.
+    pub fn split_first(self) -> Option<(&'t Packed, Rest<'t>)>
+        ensures found { IfSome result (λ first. Begins (left self.entry) first.0.now.kind
+            first.0.now.at (left first.1)) }
         ensures none { IfNone result (left self.entry ≡ []) }
     {
         let list = self.list;
         let first = list.packed.get(self.from)?;
         Some((
-            first.kind,
-            first.at,
+            first,
             Rest {
                 list,
                 from: self.from + 1,

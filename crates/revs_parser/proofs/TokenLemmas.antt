@@ -29,7 +29,8 @@ use Rattle.revs_parser.specs.inside.Forms.{fixed_tok, fixed_mark}
 use Rattle.revs_parser.specs.inside.Reading.{Passes, Reads, Skips, ReadsForm, Halts, HaltsIn, Heads, NotFirst, NoNumber, is_name, name_first}
 use Rattle.revs_parser.proofs.PassingLemmas.{passes_reads, line_passes, token_passes}
 use Rattle.revs_parser.proofs.PassingLemmas.{kept_passes, opening_passes, one_token, halts_there}
-use Rattle.revs_parser.proofs.StepLemmas.{no_sign, no_word, no_two, not_name, AtFirst, IsLeftOut, by_first, token_goes, kept_goes, opening_goes, opening_deepens}
+use Rattle.revs_parser.proofs.StepLemmas.{no_sign, no_word, no_two, not_name, AtFirst, IsLeftOut}
+use Rattle.revs_parser.proofs.StepLemmas.{by_first, token_goes, kept_goes, opening_goes, opening_deepens}
 
 -- ---- single tokens
 

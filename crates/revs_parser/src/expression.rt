@@ -111,10 +111,10 @@ fn bound_names(alloc: Global, tokens: Rest) -> Result<(Name, Vec<Name>, Rest), S
 fn begins_base(tokens: Rest) -> bool
     ensures { result ≡ base_first (left tokens.entry) }
 {
-    let Some((kind, _, _)) = tokens.split_first() else {
+    let Some((first, _)) = tokens.split_first() else {
         return false;
     };
-    match kind {
+    match &first.kind {
         Kind::Name { .. } => true,
         Kind::Word(word) => matches!(word, Word::True | Word::False | Word::Reg),
         Kind::Sign(sign) => matches!(sign, Sign::OpenRound | Sign::OpenCurly),
@@ -145,10 +145,10 @@ fn piece_of(term: Term, tokens: Rest) -> Result<(Piece, Rest), Stop>
 fn begins_item(profile: Profile, tokens: Rest) -> bool
     ensures { result ≡ item_first profile (left tokens.entry) }
 {
-    let Some((kind, _, _)) = tokens.split_first() else {
+    let Some((first, _)) = tokens.split_first() else {
         return false;
     };
-    match (kind, profile) {
+    match (&first.kind, profile) {
         (Kind::Word(Word::Let), _) => true,
         (Kind::Word(Word::For), Profile::Two) => true,
         _ => false,

@@ -29,13 +29,13 @@ enum Fixed {
     Word(Word),
 }
 
-fn is_fixed(kind: Kind, fixed: Fixed) -> bool
-    ensures is { result ≡ true → (bytes : List ℕ) → tok_of kind bytes ≡ fixed_tok fixed }
-    ensures other { result ≡ false → (bytes : List ℕ) → tok_of kind bytes ≢ fixed_tok fixed }
+fn is_fixed(kind: &Kind, fixed: Fixed) -> bool
+    ensures is { result ≡ true → (bytes : List ℕ) → tok_of kind.now bytes ≡ fixed_tok fixed }
+    ensures other { result ≡ false → (bytes : List ℕ) → tok_of kind.now bytes ≢ fixed_tok fixed }
 {
     match (kind, fixed) {
-        (Kind::Sign(first), Fixed::Sign(sign)) => first == sign,
-        (Kind::Word(first), Fixed::Word(word)) => first == word,
+        (Kind::Sign(first), Fixed::Sign(sign)) => *first == sign,
+        (Kind::Word(first), Fixed::Word(word)) => *first == word,
         _ => false,
     }
 }
@@ -46,9 +46,9 @@ fn after_fixed(tokens: Rest, fixed: Fixed) -> Option<(Place, Rest)>
         (left tokens.entry) (left found.1)) }
     ensures none { IfNone result (NotFirst (fixed_tok fixed) (left tokens.entry)) }
 {
-    let (kind, at, rest) = tokens.split_first()?;
-    if is_fixed(kind, fixed) {
-        Some((at, rest))
+    let (first, rest) = tokens.split_first()?;
+    if is_fixed(&first.kind, fixed) {
+        Some((first.at, rest))
     } else {
         None
     }
@@ -129,9 +129,9 @@ fn first_number(tokens: Rest) -> Option<(u32, Place, Rest)>
         (left tokens.entry) (left found.2)) }
     ensures none { IfNone result (NoNumber (left tokens.entry)) }
 {
-    let (kind, at, rest) = tokens.split_first()?;
-    match kind {
-        Kind::Number(n) => Some((n, at, rest)),
+    let (first, rest) = tokens.split_first()?;
+    match first.kind {
+        Kind::Number(n) => Some((n, first.at, rest)),
         _ => None,
     }
 }
@@ -172,7 +172,7 @@ pub fn begins_name(tokens: Rest) -> bool
     ensures { result ≡ name_first (left tokens.entry) }
 {
     match tokens.split_first() {
-        Some((kind, _, _)) => matches!(kind, Kind::Name { .. }),
+        Some((first, _)) => matches!(first.kind, Kind::Name { .. }),
         None => false,
     }
 }

@@ -126,7 +126,7 @@ fn ends(tokens: Rest) -> bool
     ensures { result ≡ end_first (left tokens.entry) }
 {
     match tokens.split_first() {
-        Some((kind, _, _)) => matches!(kind, Kind::End),
+        Some((first, _)) => matches!(first.kind, Kind::End),
         None => false,
     }
 }
