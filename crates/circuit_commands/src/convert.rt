@@ -6,10 +6,11 @@ ghost use Rattle.revc_io.specs.Faults.{HasCause};
 ghost use Rattle.revc_io.specs.Passing.{Writes};
 ghost use Rattle.command_answers.specs.Outcomes.{HasOneOutcome};
 ghost use Rattle.circuit_commands.specs.declared.limits.TheConstants.{MOST_CIRCUIT_BYTES};
-ghost use Rattle.circuit_commands.specs.Circuits.{line_count, marked};
+ghost use Rattle.circuit_commands.specs.Circuits.{Means, line_count, marked};
 ghost use Rattle.circuit_commands.specs.Convert.{IsSplitInto, WantsLine, converted, promise};
 ghost use Rattle.circuit_commands.specs.Convert.{file_text, added_lines};
-ghost use Rattle.circuit_commands.specs.Outcomes.{IsConversion, IsConvertFault, ConvertedView};
+ghost use Rattle.circuit_commands.specs.Outcomes.{ConvertedView, IsCircuitFault, IsConversion};
+ghost use Rattle.circuit_commands.specs.Outcomes.{IsConvertFault};
 ghost use Rattle.circuit_commands.specs.inside.Splitting.{HasLines, IsMarked, IsNarrowOf};
 ghost use Rattle.circuit_commands.specs.inside.Splitting.{IsOnLinesOf, IsSplitFault, IsSplitOf};
 ghost use Rattle.circuit_commands.specs.inside.Splitting.{SplitsText};
@@ -85,11 +86,11 @@ pub fn one_outcome()
 
 /// The circuit of narrow gates in place of those of a text's circuit, on its lines, or exactly
 /// where a gate wants an idle line there, on one more. A fault is exactly that of the text or of
-/// the split, or want of memory.
-pub fn convert(alloc: Global, text: &[u8], from: Format) -> Result<Converted, Fault>
-    requires { length text.now ≤ MOST_CIRCUIT_BYTES }
-    ensures ok { IfOk result (IsConversion IsSplitInto from text.now) }
-    ensures err { IfErr result (IsConvertFault MOST_GATES from text.now) }
+/// the split, or want of memory. The text is let go once it is read.
+pub fn convert(alloc: Global, text: Vec<u8>, from: Format) -> Result<Converted, Fault>
+    requires { length text.items ≤ MOST_CIRCUIT_BYTES }
+    ensures ok { IfOk result (IsConversion IsSplitInto from text.items) }
+    ensures err { IfErr result (IsConvertFault MOST_GATES from text.items) }
 {
     split_text(alloc, text, from, MOST_GATES)
 }
@@ -97,17 +98,26 @@ pub fn convert(alloc: Global, text: &[u8], from: Format) -> Result<Converted, Fa
 // The split list of at most so many gates of a text's circuit, with its marks.
 pub(crate) fn split_text(
     alloc: Global,
-    text: &[u8],
+    text: Vec<u8>,
     from: Format,
     most: u64,
 ) -> Result<Converted, Fault>
-    requires short { length text.now ≤ MOST_CIRCUIT_BYTES }
+    requires short { length text.items ≤ MOST_CIRCUIT_BYTES }
     requires few { most ≤ MOST_GATES }
-    ensures ok { IfOk result (SplitsText most from text.now) }
-    ensures err { IfErr result (IsConvertFault most from text.now) }
+    ensures ok { IfOk result (SplitsText most from text.items) }
+    ensures err { IfErr result (IsConvertFault most from text.items) }
 {
-    let source = read_circuit(alloc, text, from)?;
+    let source = read_and_drop(alloc, text, from)?;
     split_gates(alloc, source, most)
+}
+
+// The circuit of a text, which is let go, so that it does not stand beside the narrow gates.
+fn read_and_drop(alloc: Global, text: Vec<u8>, from: Format) -> Result<MarkedCircuit, Fault>
+    requires { length text.items ≤ MOST_CIRCUIT_BYTES }
+    ensures ok { IfOk result (Means from text.items) }
+    ensures err { IfErr result (IsCircuitFault from text.items) }
+{
+    read_circuit(alloc, &text, from)
 }
 
 // At most so many narrow gates on the lines of a circuit, or on one more. Gates that are narrow

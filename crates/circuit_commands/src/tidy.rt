@@ -20,11 +20,11 @@ pub fn one_outcome()
 
 /// A circuit of narrow gates that are tidied from the split list of a text's circuit, on its lines,
 /// or exactly where a gate wants an idle line there, on one more. A fault is exactly that of the
-/// text or of the split, or want of memory.
-pub fn tidy(alloc: Global, text: &[u8], from: Format) -> Result<Converted, Fault>
-    requires { length text.now ≤ MOST_CIRCUIT_BYTES }
-    ensures ok { IfOk result (IsConversion IsTidiedFrom from text.now) }
-    ensures err { IfErr result (IsConvertFault MOST_TIDIED_GATES from text.now) }
+/// text or of the split, or want of memory. The text is let go once it is read.
+pub fn tidy(alloc: Global, text: Vec<u8>, from: Format) -> Result<Converted, Fault>
+    requires { length text.items ≤ MOST_CIRCUIT_BYTES }
+    ensures ok { IfOk result (IsConversion IsTidiedFrom from text.items) }
+    ensures err { IfErr result (IsConvertFault MOST_TIDIED_GATES from text.items) }
 {
     let split = split_text(alloc, text, from, MOST_TIDIED_GATES)?;
     let tidied = circuit_tidy::tidy(alloc, split.narrow())?;

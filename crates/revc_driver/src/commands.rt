@@ -133,23 +133,38 @@ fn circuit_limit() -> TextLimit
     }
 }
 
-/// What an order gives for a text. A fault has its cause in the text, or is want of memory.
-pub fn prepare(alloc: Global, order: &Order, text: &[u8]) -> Result<Prepared, Fault>
-    requires short { length text.now ≤ most_bytes (reads_of (order_of order.now)) }
+// What `verify` gives for a source.
+fn verified(alloc: Global, order: &Order, source: &[u8]) -> Result<Prepared, Fault>
+    requires verifies { order.now.command ≡ Command.Verify }
+    requires short { length source.now ≤ most_bytes (reads_of (order_of order.now)) }
     requires limits { IsWithinLimits (order_of order.now) }
-    ensures ok { IfOk result (λ prepared. Gives (order_of order.now) text.now (text_of prepared)) }
+    ensures ok { IfOk result (λ prepared. Gives (order_of order.now) source.now
+        (text_of prepared)) }
     ensures writable { IfOk result CanBeWritten }
-    ensures err { IfErr result (IsCauseOrMemory (order_of order.now) text.now) }
+    ensures err { IfErr result (IsCauseOrMemory (order_of order.now) source.now) }
+{
+    verify::verify(alloc, source, order)?;
+    Ok(Prepared::Verified)
+}
+
+/// What an order gives for a text. A fault has its cause in the text, or is want of memory.
+pub fn prepare(alloc: Global, order: &Order, text: Vec<u8>) -> Result<Prepared, Fault>
+    requires short { length text.items ≤ most_bytes (reads_of (order_of order.now)) }
+    requires limits { IsWithinLimits (order_of order.now) }
+    ensures ok { IfOk result
+        (λ prepared. Gives (order_of order.now) text.items (text_of prepared)) }
+    ensures writable { IfOk result CanBeWritten }
+    ensures err { IfErr result (IsCauseOrMemory (order_of order.now) text.items) }
 {
     match order.command {
         Command::Compile => {
-            let laid = compile::compile(alloc, text, order)?;
+            let laid = compile::compile(alloc, &text, order)?;
             Ok(Prepared::File(order.values.format, laid))
         }
-        Command::Check => check::check(alloc, text, order.values.nodes).map(Prepared::Claims),
-        Command::Eval => eval::evaluate(alloc, text, order.word()).map(Prepared::Digits),
-        Command::Stat => stat::measure(alloc, text, order.values.from).map(Prepared::Stat),
-        Command::Run => run::run(alloc, text, order.values.from, &order.bits).map(Prepared::Lines),
+        Command::Check => check::check(alloc, &text, order.values.nodes).map(Prepared::Claims),
+        Command::Eval => eval::evaluate(alloc, &text, order.word()).map(Prepared::Digits),
+        Command::Stat => stat::measure(alloc, &text, order.values.from).map(Prepared::Stat),
+        Command::Run => run::run(alloc, &text, order.values.from, &order.bits).map(Prepared::Lines),
         Command::Convert => {
             let converted = convert::convert(alloc, text, order.values.from)?;
             Ok(Prepared::Converted(order.values.to, converted))
@@ -160,10 +175,7 @@ pub fn prepare(alloc: Global, order: &Order, text: &[u8]) -> Result<Prepared, Fa
         }
         Command::Gen => Ok(Prepared::Program(generate::program(alloc, order.number)?)),
         Command::Bench => bench::measure(alloc, order).map(Prepared::Bench),
-        Command::Verify => {
-            verify::verify(alloc, text, order)?;
-            Ok(Prepared::Verified)
-        }
+        Command::Verify => verified(alloc, order, &text),
         Command::Arith => arith::make(alloc, order).map(Prepared::Arith),
     }
 }

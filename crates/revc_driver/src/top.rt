@@ -55,7 +55,7 @@ fn run<S: Source, K: Sink>(
     one_outcome(order.command);
     orders_are_within_limits();
     let text = read_text(alloc, limit_of(order.command), source)?;
-    let prepared = prepare(alloc, &order, &text)?;
+    let prepared = prepare(alloc, &order, text)?;
     match prepared.write(out) {
         Ok(()) => Ok(()),
         Err(_) => Err(Fault::Write),

@@ -8,7 +8,8 @@ use Rattle.revc_driver.proofs.commands.prepare.Goals as goal
 
 pub returns-in_ok-laid-in-Compile-clause-ok : goal.returns-in_ok-laid-in-Compile-clause-ok
 returns-in_ok-laid-in-Compile-clause-ok c =
-    given_of (order_of c.args.order.now) c.args.text.now _ commands.Compile c.in-Compile.is c.in_ok-laid-in-Compile.ensures.ok
+    given_of (order_of c.args.order.now) c.args.text.items _ commands.Compile c.in-Compile.is
+    (rw c.deref.ensures.value at c.in_ok-laid-in-Compile.ensures.ok)
 
 pub make-requires : goal.make-requires
 make-requires c =

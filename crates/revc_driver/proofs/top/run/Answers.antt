@@ -18,19 +18,19 @@ returns-in_err-text g c =
 pub returns-in_err-prepared : goal.returns-in_err-prepared
 returns-in_err-prepared g c =
     ends_failed _ c.from_residual-in_err-prepared.result c.from_residual-in_err-prepared.ensures.1
-    (not_prepared _ (order_of c.in-Ok.order) c.in_ok-text.text.items c.deref.result.now _ c.in-Ok.ensures.ok c.one_outcome.ensures
-    (rw c.limit_of.ensures.limit at c.in_ok-text.ensures.ok) c.deref.ensures.value c.in_err-prepared.ensures.err refl refl)
+    (not_prepared _ (order_of c.in-Ok.order) c.in_ok-text.text.items c.in_ok-text.text.items _ c.in-Ok.ensures.ok c.one_outcome.ensures
+    (rw c.limit_of.ensures.limit at c.in_ok-text.ensures.ok) refl c.in_err-prepared.ensures.err refl refl)
 
 pub returns-in-Ok-write : goal.returns-in-Ok-write
 returns-in-Ok-write g c =
-    written _ (order_of c.in-Ok.order) c.in_ok-text.text.items c.deref.result.now (text_of c.in_ok-prepared.prepared) c.in-Ok.ensures.ok
-    c.one_outcome.ensures (rw c.limit_of.ensures.limit at c.in_ok-text.ensures.ok) c.deref.ensures.value c.in_ok-prepared.ensures.ok
+    written _ (order_of c.in-Ok.order) c.in_ok-text.text.items c.in_ok-text.text.items (text_of c.in_ok-prepared.prepared) c.in-Ok.ensures.ok
+    c.one_outcome.ensures (rw c.limit_of.ensures.limit at c.in_ok-text.ensures.ok) refl c.in_ok-prepared.ensures.ok
     c.in-Ok-write.ensures.bytes.0 c.in-Ok-write.ensures.bytes.1 c.in-Ok-write.ensures.cause.stays
 
 pub returns : goal.returns
 returns g c =
-    not_written _ (order_of c.in-Ok.order) c.in_ok-text.text.items c.deref.result.now (text_of c.in_ok-prepared.prepared) c.in-Ok.ensures.ok
-    c.one_outcome.ensures (rw c.limit_of.ensures.limit at c.in_ok-text.ensures.ok) c.deref.ensures.value c.in_ok-prepared.ensures.ok
+    not_written _ (order_of c.in-Ok.order) c.in_ok-text.text.items c.in_ok-text.text.items (text_of c.in_ok-prepared.prepared) c.in-Ok.ensures.ok
+    c.one_outcome.ensures (rw c.limit_of.ensures.limit at c.in_ok-text.ensures.ok) refl c.in_ok-prepared.ensures.ok
     c.in-Err-write.ensures.bytes c.in-Err-write.ensures.cause.failed
 
 pub prepare-requires-clause-limits : goal.prepare-requires-clause-limits
