@@ -84,17 +84,18 @@ start_of Pebble = Any
 abbrev pub added : List Bool → List Bool → List Bool
 added held bits = zip2 xor held bits
 
--- the gates take this input, these bits on the output lines, zeros on the work lines, and these bits on the borrowed
--- lines to the input, those bits with the outputs added to them, zeros, and the same bits
+-- the gates take this input, these bits on the output lines, zeros on the work lines, and these
+-- bits on the borrowed lines to the input, those bits with the outputs added to them, zeros, and
+-- the same bits
 pub record AddsOutput (roles : Roles) (gates : List GateView)
     (input held outputs borrowed : List Bool) : Type 0 where
   pub mapped :
       line_map gates (input ++ (held ++ (zeros roles.work ++ borrowed)))
       ≡ input ++ (added held outputs ++ (zeros roles.work ++ borrowed))
 
--- What a plan promises: the program has an output for each output line, and on every input, whatever the output lines
--- hold that they may, and whatever the borrowed lines hold, the gates add its value to the output lines, and leave all
--- other lines as they are.
+-- What a plan promises: the program has an output for each output line, and on every input,
+-- whatever the output lines hold that they may, and whatever the borrowed lines hold, the gates add
+-- its value to the output lines, and leave all other lines as they are.
 pub record AddsOutputs (start : Start) (roles : Roles) (gates : List GateView)
     (value : List Bool → List Bool) : Type 0 where
   pub size : (input : List Bool) → length input ≡ roles.inputs
@@ -103,16 +104,16 @@ pub record AddsOutputs (start : Start) (roles : Roles) (gates : List GateView)
       → length held ≡ roles.outputs → MayHold start held → length borrowed ≡ roles.borrowed
       → AddsOutput roles gates input held (value input) borrowed
 
--- the gates take this input, zeros on the output and work lines, and these bits on the borrowed lines to the input,
--- these outputs, zeros on the work lines, and the same bits
+-- the gates take this input, zeros on the output and work lines, and these bits on the borrowed
+-- lines to the input, these outputs, zeros on the work lines, and the same bits
 pub record PutsOutputs (roles : Roles) (gates : List GateView)
     (input outputs borrowed : List Bool) : Type 0 where
   pub mapped :
       line_map gates (input ++ (zeros roles.outputs ++ (zeros roles.work ++ borrowed)))
       ≡ input ++ (outputs ++ (zeros roles.work ++ borrowed))
 
--- on every input, whatever the borrowed lines hold, the gates put its value on the output lines, and leave all other
--- lines as they are
+-- on every input, whatever the borrowed lines hold, the gates put its value on the output lines,
+-- and leave all other lines as they are
 pub record MapsCleanly (roles : Roles) (gates : List GateView)
     (value : List Bool → List Bool) : Type 0 where
   pub puts : (input borrowed : List Bool) → length input ≡ roles.inputs
@@ -132,7 +133,8 @@ AddedOutputsArePut =
 abbrev pub with_borrowed : Roles → ℕ → Roles
 with_borrowed roles count = record roles { borrowed = count }
 
--- The law: gates that add their outputs without borrowed lines do so beside any number of them, which they do not use.
+-- The law: gates that add their outputs without borrowed lines do so beside any number of them,
+-- which they do not use.
 abbrev pub CleanCircuitsBorrow : Type 0
 CleanCircuitsBorrow =
     (start : Start) (roles : Roles) (gates : List GateView) (value : List Bool → List Bool)

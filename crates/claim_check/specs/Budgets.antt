@@ -2,8 +2,8 @@
 use Rattle.std.specs.Prelude.{ℕ, ◌+◌, ◌*◌, ◌^◌, min, nat_le, Bool, if◌then◌else◌, List, sum_by}
 use Rattle.std.specs.List.{list_all}
 
--- What budgets are counted from: the numbers of inputs, outputs and steps, the width, and for each step the number of
--- its monomials. The steps are the writes of a tape, or the nodes of a graph.
+-- What budgets are counted from: the numbers of inputs, outputs and steps, the width, and for each
+-- step the number of its monomials. The steps are the writes of a tape, or the nodes of a graph.
 pub record Measures : Type 0 where
   pub inputs : ℕ
   pub outputs : ℕ
@@ -21,7 +21,8 @@ plain_gates m = 4 * m.steps + m.outputs
 
 -- ---- pebbling by halves, down to one step, on so many levels
 
--- the numbers of the lean row: a line for each node, and what all toggles of lean nodes and outputs weigh at most
+-- the numbers of the lean row: a line for each node, and what all toggles of lean nodes and outputs
+-- weigh at most
 abbrev pub lean_lines : Measures → ℕ → ℕ
 lean_lines m borrowed = m.inputs + m.outputs + m.steps + borrowed
 

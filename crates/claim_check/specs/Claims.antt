@@ -1,4 +1,5 @@
--- The claims of a tape on all inputs, one after another, within a limit on the functions on which they rest.
+-- The claims of a tape on all inputs, one after another, within a limit on the functions on which
+-- they rest.
 use Rattle.std.specs.Prelude.{◌≡◌, ℕ, ◌+◌, Bool, List, length, take, slice_get, Some}
 use Rattle.std.specs.List.{AllByRecursion}
 use Rattle.revs_tape.specs.declared.tape.Claim.{Claim}
@@ -17,8 +18,8 @@ pub record HoldWithin (t : TapeView) (limit : ℕ) : Type 0 where
   pub all : AllByRecursion (HoldsEverywhere t) t.claims
   pub few : HasAtMost t (length t.claims) limit
 
--- This claim, counted from 0, is the first that fails on some input, and first on this one. The functions on which the
--- claims through it rest are within the limit.
+-- This claim, counted from 0, is the first that fails on some input, and first on this one. The
+-- functions on which the claims through it rest are within the limit.
 pub record BreaksOn (t : TapeView) (limit number : ℕ) (input : List Bool) : Type 0 where
   pub claim : Claim
   pub is_claim : slice_get t.claims number ≡ Some claim
@@ -26,8 +27,8 @@ pub record BreaksOn (t : TapeView) (limit number : ℕ) (input : List Bool) : Ty
   pub least : IsLeastBreaking t claim input
   pub few : HasAtMost t (number + 1) limit
 
--- The claims before this one hold on all inputs. The functions on which they rest are within the limit, and with those
--- of this claim they are not.
+-- The claims before this one hold on all inputs. The functions on which they rest are within the
+-- limit, and with those of this claim they are not.
 pub record PassesAt (t : TapeView) (limit number : ℕ) : Type 0 where
   pub claim : Claim
   pub is_claim : slice_get t.claims number ≡ Some claim

@@ -1,4 +1,5 @@
--- What is measured of a tape and of a settled graph, and that a settled graph is within the measures of its tape.
+-- What is measured of a tape and of a settled graph, and that a settled graph is within the
+-- measures of its tape.
 use Rattle.std.specs.Prelude.{◌≡◌, ℕ, ◌<◌, ◌≤◌, Bool, List, length, map, slice_index}
 use Rattle.std.specs.List.{AllByRecursion}
 use Rattle.list_facts.specs.Lists.{AreDifferent}
@@ -28,8 +29,8 @@ pub record HaveOwnWrites (t : TapeView) (s : SettledView) : Type 0 where
       → settled_value s input (Is (bases.Node k))
       ≡ bit_on t input (refs.Write (slice_index writes k))
 
--- No cut of a settled graph has more nodes than the width of the tape, each node stands for a write of its own, and it
--- has no more ANDs than the tape.
+-- No cut of a settled graph has more nodes than the width of the tape, each node stands for a write
+-- of its own, and it has no more ANDs than the tape.
 pub record IsNoLarger (t : TapeView) (s : SettledView) : Type 0 where
   pub cuts : (width : ℕ) → HasWidth t width → IsNoWider (as_graph s) width
   pub writes : HaveOwnWrites t s
@@ -91,8 +92,8 @@ pub record AreSelected (some all : List ℕ) : Type 0 where
   pub inside : AllByRecursion (λ place. place < length all) places
   pub are : some ≡ map (λ place. slice_index all place) places
 
--- A settled graph is within measures: it has these inputs and outputs, no more nodes, no longer cuts, and the numbers
--- of its nodes' monomials are among those of the steps.
+-- A settled graph is within measures: it has these inputs and outputs, no more nodes, no longer
+-- cuts, and the numbers of its nodes' monomials are among those of the steps.
 pub record IsWithin (s : SettledView) (m : Measures) : Type 0 where
   pub inputs : s.inputs ≡ m.inputs
   pub outputs : length s.outputs ≡ m.outputs

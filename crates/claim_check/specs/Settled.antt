@@ -31,8 +31,8 @@ settled_value s input sig = value_on (as_graph s) (bit_of input) sig
 abbrev pub settled_outputs : SettledView → List Bool → List Bool
 settled_outputs s input = map (settled_value s input) s.outputs
 
--- What a settled graph keeps: operands are earlier and different, each node is an operand or an output, and the limits
--- hold.
+-- What a settled graph keeps: operands are earlier and different, each node is an operand or an
+-- output, and the limits hold.
 pub record IsSettled (s : SettledView) : Type 0 where
   pub nodes : AreKnownNodes s.inputs 0 s.nodes
   pub outputs : AllByRecursion (IsKnownSig s.inputs (length s.nodes)) s.outputs
@@ -48,8 +48,8 @@ pub record HasValueOfWrite (t : TapeView) (s : SettledView) (k : ℕ) : Type 0 w
   pub same : (input : List Bool)
       → settled_value s input (Is (bases.Node k)) ≡ bit_on t input (refs.Write write)
 
--- The settled graph of a tape: it has the inputs of the tape, its outputs have the values of the tape's outputs, and
--- each node has the value of some write.
+-- The settled graph of a tape: it has the inputs of the tape, its outputs have the values of the
+-- tape's outputs, and each node has the value of some write.
 pub record IsSettledOf (t : TapeView) (s : SettledView) : Type 0 where
   pub inputs : s.inputs ≡ inputs_of t
   pub outputs : length s.outputs ≡ outputs_of t

@@ -14,8 +14,8 @@ pub record DiagramView : Type 0 where
   pub limit : ℕ
   pub nodes : List Triple
 
--- The numbers 0 and 1 are the constants false and true, and the inner nodes have the numbers from 2 on,
--- in the order in which they were made. This is the number of the inner node that is made next.
+-- The numbers 0 and 1 are the constants false and true, and the inner nodes have the numbers from 2
+-- on, in the order in which they were made. This is the number of the inner node that is made next.
 abbrev pub next_number : List Triple → ℕ
 next_number nodes = 2 + length nodes
 
@@ -31,7 +31,8 @@ side node bit = if bit then node.high else node.low
 abbrev pub branch : Triple → Assignment → ℕ
 branch node a = side node (a node.variable)
 
--- the function of a number: the newest node goes to an older number, and any other number is an older one
+-- the function of a number: the newest node goes to an older number, and any other number is an
+-- older one
 abbrev pub function_of : List Triple → ℕ → Function
 function_of [] n a = nat_eq n 1
 function_of (node ∷ older) n a =
@@ -55,8 +56,8 @@ pub record MayFollow (vars : ℕ) (older : List Triple) (node : Triple) : Type 0
   pub high : IsBehind vars older node.variable node.high
   pub missing : Contains older node → ⊥
 
--- Low and high of a node differ, children stand before their parents and ask later variables, and no node
--- stands twice.
+-- Low and high of a node differ, children stand before their parents and ask later variables, and
+-- no node stands twice.
 abbrev pub AreOrdered : ℕ → List Triple → Type 0
 AreOrdered vars [] = Unit {0}
 AreOrdered vars (node ∷ older) = MayFollow vars older node × AreOrdered vars older

@@ -1,4 +1,5 @@
--- Functions of Boolean variables, and the functions that come from one by fixing its first variables.
+-- Functions of Boolean variables, and the functions that come from one by fixing its first
+-- variables.
 use Rattle.std.specs.Prelude.{◌≡◌, ℕ, ◌<◌, ◌&&◌, Bool, true, false, nat_lt, List, if◌then◌else◌}
 use Rattle.std.specs.Bool.{xor}
 use Rattle.list_facts.specs.Bits.{bit_of}
@@ -56,8 +57,8 @@ pub record ComesFrom (f g : Function) : Type 0 where
   pub bits : Assignment
   pub same : AreSame g (λ a. f (fixed count bits a))
 
--- Of the assignments that give the bit, a is the least in the order of the variables, false before true:
--- where another one first parts from it, the other has true.
+-- Of the assignments that give the bit, a is the least in the order of the variables, false before
+-- true: where another one first parts from it, the other has true.
 pub record IsLeast (f : Function) (bit : Bool) (a : Assignment) : Type 0 where
   pub gives : f a ≡ bit
   pub least : (b : Assignment) → f b ≡ bit

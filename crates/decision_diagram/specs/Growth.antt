@@ -50,13 +50,14 @@ pub record IsFullFor (f : Function) (d : DiagramView) (nodes : ℕ) : Type 0 whe
   pub full : length d.nodes ≡ d.limit
   pub needs : NeedsAnother f d.nodes
 
--- the diagram may refuse f with this fault; want of memory has no cause, and comes only where there is room
+-- the diagram may refuse f with this fault; want of memory has no cause, and comes only where there
+-- is room
 abbrev pub MayRefuse : Function → DiagramView → DdFault → Type 0
 MayRefuse f d (Full nodes) = IsFullFor f d nodes
 MayRefuse f d (Memory _) = length d.nodes < d.limit
 
--- A call that is asked for f: what it leaves of the diagram and adds to it, and that its answer is the number of f. Each
--- inner node that it adds comes from f; at an answer these are nodes of f.
+-- A call that is asked for f: what it leaves of the diagram and adds to it, and that its answer is
+-- the number of f. Each inner node that it adds comes from f; at an answer these are nodes of f.
 pub record Computes (f : Function) (old now : DiagramView) (result : Result ℕ DdFault)
     : Type 0 where
   pub canonical : IsCanonical now

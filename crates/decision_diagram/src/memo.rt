@@ -2,7 +2,8 @@
 ghost use Rattle.std.specs.Prelude.{◌≡◌, ◌≤◌, ◌<◌, ◌⊎◌, length, [], Some};
 ghost use Rattle.indexmap.specs.IndexMap.{spare};
 ghost use Rattle.decision_diagram.specs.declared.memo.TheConstants.{MOST_RESULTS};
-ghost use Rattle.decision_diagram.specs.inside.Memos.{recalled_from, IsEmptiedWhereFull, KeepsOrNotes};
+ghost use Rattle.decision_diagram.specs.inside.Memos.{recalled_from};
+ghost use Rattle.decision_diagram.specs.inside.Memos.{IsEmptiedWhereFull, KeepsOrNotes};
 
 use crate::node::Dd;
 use indexmap::IndexMap;

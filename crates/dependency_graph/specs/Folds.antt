@@ -29,8 +29,8 @@ abbrev pub xor_constant : Bool → Base → Reduct
 xor_constant false base = Known (Is base)
 xor_constant true base = New (Not base)
 
--- What two things are folded to by an operation on bits: two constants to one, a constant and a base as is told, a base
--- with itself to a known thing, and two other bases to a node.
+-- What two things are folded to by an operation on bits: two constants to one, a constant and a
+-- base as is told, a base with itself to a known thing, and two other bases to a node.
 abbrev pub folded_pair : (Bool → Bool → Bool) → (Bool → Base → Reduct) → (Base → Sig)
     → (Base → Base → Node) → Sig → Sig → Reduct
 folded_pair bits mixed twice node (Const a) (Const b) = Known (Const (bits a b))

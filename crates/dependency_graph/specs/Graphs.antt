@@ -17,8 +17,8 @@ use Rattle.dependency_graph.specs.declared.node.Node.TheVariants.{Not, Xor, And}
 use Rattle.dependency_graph.specs.declared.node.Sig.{Sig}
 use Rattle.dependency_graph.specs.declared.node.Sig.TheVariants.{Const, Is}
 
--- a graph: the number of inputs, the nodes, what each write of the tape became, and what each output
--- became, in order
+-- a graph: the number of inputs, the nodes, what each write of the tape became, and what each
+-- output became, in order
 pub record GraphView : Type 0 where
   pub inputs : ℕ
   pub nodes : List Node

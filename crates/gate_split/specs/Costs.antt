@@ -8,8 +8,8 @@ use Rattle.gate_split.specs.Split.{Avoids, IsSplitList, WantsIdle, idle_lines, s
 
 -- ---- flips of positive controls
 
--- the gates in place of a flip of k positive controls, at least 3: 4(k - 2) where k - 2 lines are idle,
--- and otherwise 10 for k = 4 and 8(k - 3) for more; so never more than 8k
+-- the gates in place of a flip of k positive controls, at least 3: 4(k - 2) where k - 2 lines are
+-- idle, and otherwise 10 for k = 4 and 8(k - 3) for more; so never more than 8k
 pub record HasCost (n : ℕ) (controls : List ℕ) (target : ℕ) (gates : List GateView) : Type 0 where
   pub with_enough :
       length controls - 2 ≤ length (idle_lines n (controls ++ target ∷ []))
@@ -35,8 +35,8 @@ NarrowStay =
 
 -- ---- flips that a split takes
 
--- at most so many gates stand in place of a flip: one for two controls or fewer, eight for each of more, and two more
--- for each negative control
+-- at most so many gates stand in place of a flip: one for two controls or fewer, eight for each of
+-- more, and two more for each negative control
 abbrev pub most_gates : GateView → ℕ
 most_gates gate =
     (if nat_le (length gate.controls) 2 then 1 else 8 * length gate.controls)
@@ -61,8 +61,9 @@ pub record IsSplitWithin (n limit : ℕ) (gates : List GateView) (most : ℕ) : 
   pub is : IsSplitList n limit gates narrow
   pub few : length narrow ≤ most
 
--- Such flips never want an idle line, on these lines or more. They are split where their most gates are within the limit
--- together; and the most gates for a flip of k controls are at least its weight, and at most 10k + 1.
+-- Such flips never want an idle line, on these lines or more. They are split where their most gates
+-- are within the limit together; and the most gates for a flip of k controls are at least its
+-- weight, and at most 10k + 1.
 pub record RoomyFlipsAreSplit : Type 0 where
   pub split : (n limit : ℕ) (gates : List GateView) → AllByRecursion (IsRoomyFlip n) gates
       → sum_by most_gates gates ≤ limit → IsSplitWithin n limit gates (sum_by most_gates gates)

@@ -31,8 +31,8 @@ in_falling_order n lines = falling_lines (λ line. has_line line lines) n
 
 -- ---- a flip of three or more controls over idle lines (Barenco and others 1995, Lemma 7.2)
 
--- from the last control and idle line down to the first: each flips the line before by a control and its idle line,
--- and the last one flips the first idle line by the first two controls
+-- from the last control and idle line down to the first: each flips the line before by a control
+-- and its idle line, and the last one flips the first idle line by the first two controls
 abbrev pub ladder : ℕ → List ℕ → List ℕ → List GateView
 ladder target controls [] = flip_of (reverse controls) target ∷ []
 ladder target [] (idle ∷ idles) = []
@@ -82,7 +82,8 @@ abbrev pub over_few_lines : ℕ → List ℕ → ℕ → List ℕ → Option (Li
 over_few_lines n controls target [] = None
 over_few_lines n controls target (idle ∷ idles) = Some (in_halves n controls target idle)
 
--- a flip under positive controls, among n lines: none where it has three controls or more and no line is idle
+-- a flip under positive controls, among n lines: none where it has three controls or more and no
+-- line is idle
 abbrev pub split_positive : ℕ → List ℕ → ℕ → Option (List GateView)
 split_positive n controls target =
     let idle = idle_lines n (controls ++ target ∷ []) in

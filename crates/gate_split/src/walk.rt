@@ -1,5 +1,6 @@
 // The gates in place of those of a circuit.
-ghost use Rattle.std.specs.Prelude.{◌≡◌, ◌≢◌, ℕ, ◌≤◌, List, Bool, length, Some, None, IfOk, IsErrOf};
+ghost use Rattle.std.specs.Prelude.{◌≡◌, ◌≢◌, ℕ, ◌≤◌, List, Bool, length};
+ghost use Rattle.std.specs.Prelude.{Some, None, IfOk, IsErrOf};
 ghost use Rattle.mct_circuit.specs.Gates.{AreGatesOn, AreNarrow, line_map};
 ghost use Rattle.gate_split.specs.Split.{HasSplitList, IsSplitList, PassesLimit, WantsIdle};
 ghost use Rattle.gate_split.specs.Split.{split_gates};

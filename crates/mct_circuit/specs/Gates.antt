@@ -1,4 +1,5 @@
--- Gates, and the map of bits that a list of gates makes. The bits of the lines are a list, line 0 first.
+-- Gates, and the map of bits that a list of gates makes. The bits of the lines are a list, line 0
+-- first.
 use Rattle.std.specs.Prelude.{◌≡◌, ℕ, ◌<◌, ◌≤◌, Bool, true, not, if◌then◌else◌, List, [], ◌∷◌, ◌++◌, length, map, reverse, swap, slice_set}
 use Rattle.std.specs.List.{AllByRecursion, list_all}
 use Rattle.list_facts.specs.Bits.{bit_of}

@@ -8,7 +8,8 @@ use Rattle.mct_circuit.specs.declared.gate.Op.TheVariants.{Flip}
 use Rattle.mct_circuit.specs.Gates.{GateView, AreGatesOn, after_gate, is_met, line_map}
 use Rattle.mct_circuit.specs.Sizes.{weight_of}
 
--- a flip is a set: its target's bit becomes the exclusive or of that bit and of whether all controls are met
+-- a flip is a set: its target's bit becomes the exclusive or of that bit and of whether all
+-- controls are met
 abbrev pub FlipsSet : Type 0
 FlipsSet =
     (controls : List Control) (target : ℕ) (bits : List Bool)
@@ -21,8 +22,8 @@ MoreLinesStay =
     (gates : List GateView) (bits more : List Bool) → AreGatesOn (length bits) gates
     → line_map gates (bits ++ more) ≡ line_map gates bits ++ more
 
--- Compute, copy, uncompute: where the computing gates take s to u and s' to u', and the copying gates take u to u', all of
--- them and the computing gates reversed take s to s'.
+-- Compute, copy, uncompute: where the computing gates take s to u and s' to u', and the copying
+-- gates take u to u', all of them and the computing gates reversed take s to s'.
 abbrev pub Uncomputes : Type 0
 Uncomputes =
     (computing copying : List GateView) (s u s' u' : List Bool)

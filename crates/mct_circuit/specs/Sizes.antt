@@ -55,7 +55,8 @@ has_line line lines = list_any (λ other. line == other) lines
 abbrev pub share_a_line : List ℕ → List ℕ → Bool
 share_a_line these those = list_any (λ line. has_line line those) these
 
--- the depth of a gate behind others: one more than the greatest depth of an earlier one that shares a line with it, or 1
+-- the depth of a gate behind others: one more than the greatest depth of an earlier one that shares
+-- a line with it, or 1
 abbrev pub gate_depth : GateView → List GateView → ℕ
 gate_depth gate [] = 1
 gate_depth gate (other ∷ earlier) =

@@ -5,14 +5,15 @@ use Rattle.revc_io.specs.Held.{Held}
 
 -- ---- calls
 
--- the numbers of the calls that fail, how many calls there were (up to the greatest 64-bit number), and the count of
--- faults
+-- the numbers of the calls that fail, how many calls there were (up to the greatest 64-bit number),
+-- and the count of faults
 pub record CallsView : Type 0 where
   pub failing : List ℕ
   pub made : ℕ
   pub faults : ℕ
 
--- the next call has a number, which is one of those that fail; calls have numbers from 1 to the greatest 64-bit number
+-- the next call has a number, which is one of those that fail; calls have numbers from 1 to the
+-- greatest 64-bit number
 abbrev pub FailsNext : CallsView → Type 0
 FailsNext calls = (calls.made < 2 ^ 64 - 1) × Contains calls.failing (calls.made + 1)
 
@@ -37,13 +38,15 @@ pub record SourceView : Type 0 where
   pub most : ℕ
   pub calls : CallsView
 
--- how many bytes a call gives into a buffer of this length: as many as `most`, the rest and the buffer allow
+-- how many bytes a call gives into a buffer of this length: as many as `most`, the rest and the
+-- buffer allow
 abbrev pub given_of : SourceView → ℕ → ℕ
 given_of source len = min (min source.most (length source.rest)) len
 
 -- ---- a sink
 
--- its room in bytes, the most bytes that one call takes, the bytes that it took, whether it was flushed since, and its calls
+-- its room in bytes, the most bytes that one call takes, the bytes that it took, whether it was
+-- flushed since, and its calls
 pub record SinkView : Type 0 where
   pub room : ℕ
   pub most : ℕ
@@ -68,6 +71,7 @@ held_by sink = record {
   flushed = IsTrue sink.flushed;
 }
 
--- how many bytes of a piece of this length a call takes: as many as `most`, the piece and the room allow
+-- how many bytes of a piece of this length a call takes: as many as `most`, the piece and the room
+-- allow
 abbrev pub taken_of : SinkView → ℕ → ℕ
 taken_of sink len = min sink.most (min len (sink.room - length sink.held))

@@ -9,7 +9,8 @@ use Rattle.revc_io.specs.declared.reading.ReadFault.TheVariants.{Failed, TooLong
 abbrev pub TakesCount : Option (List ℕ) → Option (List ℕ) → (ℕ → Type 0) → Type 0
 TakesCount old new P = (taken : List ℕ) × Consumes old new taken × P (length taken)
 
--- how many bytes were taken at each refusal: one more than the limit at `TooLong`, at most the limit at each other
+-- how many bytes were taken at each refusal: one more than the limit at `TooLong`, at most the
+-- limit at each other
 abbrev pub TakenAt : ReadFault → ℕ → ℕ → Type 0
 TakenAt TooLong limit count = count ≡ limit + 1
 TakenAt Failed limit count = count ≤ limit
@@ -28,12 +29,14 @@ pub record ReadsAll (old new : Option (List ℕ)) (limit : ℕ) (all : List ℕ)
   pub text : IfSome old (λ rest. all ≡ rest)
   pub fits : length all ≤ limit
 
--- reading stopped at this fault: so many bytes were taken, and it is too long only where the rest is
+-- reading stopped at this fault: so many bytes were taken, and it is too long only where the rest
+-- is
 pub record StopsAt (old new : Option (List ℕ)) (limit : ℕ) (fault : ReadFault) : Type 0 where
   pub taken : TakesCount old new (TakenAt fault limit)
   pub too_long : fault ≡ TooLong → IfSome old (λ rest. limit < length rest)
 
--- the count of faults never falls, it stays where the whole rest was read, and is that of the fault where it was not
+-- the count of faults never falls, it stays where the whole rest was read, and is that of the fault
+-- where it was not
 pub record CountsFault {T : Type 0} (before now : ℕ) (result : Result T ReadFault) : Type 0 where
   pub later : before ≤ now
   pub stays : OnOk result (now ≡ before)

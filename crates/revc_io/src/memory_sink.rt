@@ -1,5 +1,5 @@
-ghost use Rattle.std.specs.Prelude.{◌≡◌, ◌↔◌, ◌⊎◌, ◌<◌, ◌≤◌, ◌++◌, [], length, take, true, false, IfOk};
-ghost use Rattle.std.specs.Prelude.{IsErr, MatchResult, vec_len, vec_capacity};
+ghost use Rattle.std.specs.Prelude.{◌≡◌, ◌↔◌, ◌⊎◌, ◌<◌, ◌≤◌, ◌++◌, [], length, take, true, false};
+ghost use Rattle.std.specs.Prelude.{IfOk, IsErr, MatchResult, vec_len, vec_capacity};
 ghost use Rattle.std.specs.Io.{WritesAtMost};
 ghost use Rattle.revc_io.specs.Faults.{HasCause};
 ghost use Rattle.revc_io.specs.Held.{Flushes, WritesSome};

@@ -33,7 +33,8 @@ IsBase t claims base = AnyByRecursion (λ claim. RestsOn t claim.of base) (take 
 
 -- ---- functions of the inputs
 
--- a function that comes from that of an input or a write by fixing the first variables of the order to these bits
+-- a function that comes from that of an input or a write by fixing the first variables of the order
+-- to these bits
 pub record Restriction : Type 0 where
   pub of : Ref
   pub fixed : List Bool
@@ -56,7 +57,8 @@ abbrev pub IsConstant : TapeView → Restriction → Type 0
 IsConstant t r = (one other : List Bool) → IsInputOf t one → IsInputOf t other
     → value_on t r one ≡ value_on t r other
 
--- A member of the set of functions on which the first claims rest: a restriction that is not constant.
+-- A member of the set of functions on which the first claims rest: a restriction that is not
+-- constant.
 pub record IsMember (t : TapeView) (claims : ℕ) (r : Restriction) : Type 0 where
   pub base : IsBase t claims r.of
   pub few : length r.fixed ≤ sum t.params

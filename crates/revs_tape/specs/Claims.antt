@@ -26,7 +26,8 @@ pub record HasOneLeastBreaking (t : TapeView) (claim : Claim) : Type 0 where
   pub is : IsLeastBreaking t claim input
   pub only : (other : List Bool) → IsLeastBreaking t claim other → other ≡ input
 
--- The law: a claim holds everywhere, or one input is the least that breaks it; not both, since it fails there.
+-- The law: a claim holds everywhere, or one input is the least that breaks it; not both, since it
+-- fails there.
 abbrev pub ClaimsAreSettled : Type 0
 ClaimsAreSettled =
     (t : TapeView) (claim : Claim) → HoldsEverywhere t claim ⊎ HasOneLeastBreaking t claim

@@ -1,5 +1,5 @@
--- Cuts of a list of steps. A step is the list of its operands, each the number of an earlier step, and some
--- steps are outputs. The writes of a tape are such steps, and so are the nodes of a graph.
+-- Cuts of a list of steps. A step is the list of its operands, each the number of an earlier step,
+-- and some steps are outputs. The writes of a tape are such steps, and so are the nodes of a graph.
 use Rattle.std.specs.Prelude.{◌≡◌, ℕ, ◌≤◌, ◌==◌, Bool, ◌||◌, List, length, drop, filter}
 use Rattle.std.specs.List.{list_any}
 use Rattle.list_facts.specs.Lists.{below}
@@ -17,7 +17,8 @@ is_needed steps outputs j i =
 abbrev pub cut_at : List (List ℕ) → List ℕ → ℕ → List ℕ
 cut_at steps outputs j = filter (is_needed steps outputs j) (below j)
 
--- The width: no cut is longer, and some cut is that long. The cuts lie before each step and behind the last.
+-- The width: no cut is longer, and some cut is that long. The cuts lie before each step and behind
+-- the last.
 pub record IsWidth (steps : List (List ℕ)) (outputs : List ℕ) (width : ℕ) : Type 0 where
   pub most : (j : ℕ) → j ≤ length steps → length (cut_at steps outputs j) ≤ width
   pub at : ℕ

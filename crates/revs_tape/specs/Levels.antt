@@ -1,8 +1,8 @@
 -- Levels of a list of steps that is taken in blocks.
 use Rattle.std.specs.Prelude.{◌≡◌, ℕ, ◌*◌, ◌≤◌, ◌^◌}
 
--- The number of levels of so many steps in blocks of this size: the least number c for which block * 2 ^ c steps
--- are enough. It is 0 where one block holds them all.
+-- The number of levels of so many steps in blocks of this size: the least number c for which block
+-- * 2 ^ c steps are enough. It is 0 where one block holds them all.
 pub record IsLevels (block steps levels : ℕ) : Type 0 where
   pub enough : steps ≤ block * 2 ^ levels
   pub least : (other : ℕ) → steps ≤ block * 2 ^ other → levels ≤ other

@@ -31,7 +31,8 @@ MonomialsAreDetermined = (n : ℕ) (function : List Bool → Bool) → HasOneSet
 
 -- ---- of a tape
 
--- a reference of a tape as a function of the inputs; the function of write j is that of the reference to it
+-- a reference of a tape as a function of the inputs; the function of write j is that of the
+-- reference to it
 abbrev pub function_of : TapeView → Ref → List Bool → Bool
 function_of t ref input = bit_on t input ref
 

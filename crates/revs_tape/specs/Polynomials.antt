@@ -1,5 +1,5 @@
--- Polynomials over the field of two elements: sums (by exclusive or) of monomials, each a product (by and) of inputs.
--- An assignment gives each input a bit.
+-- Polynomials over the field of two elements: sums (by exclusive or) of monomials, each a product
+-- (by and) of inputs. An assignment gives each input a bit.
 use Rattle.std.specs.Prelude.{◌≡◌, ℕ, Bool, false, List, [], ◌∷◌, ⊤}
 use Rattle.std.specs.Bool.{xor}
 use Rattle.list_facts.specs.Lists.{IsRising}

@@ -109,7 +109,8 @@ Holds t input claim = IsMet input (written_by input [] t.entries) claim
 abbrev pub IsFirstBroken : TapeView → List Bool → ℕ → Type 0
 IsFirstBroken t input number = IsFirstFailing input (written_by input [] t.entries) t.claims number
 
--- How the run of a tape ends on an input: with its outputs where every claim holds, else at the first claim that fails.
+-- How the run of a tape ends on an input: with its outputs where every claim holds, else at the
+-- first claim that fails.
 abbrev pub IsEndOf : TapeView → List Bool → TapeEnd → Type 0
 IsEndOf t input (ends.Out bits) =
     AllByRecursion (Holds t input) t.claims × (bits ≡ outputs_on t input)

@@ -6,7 +6,8 @@ use Rattle.list_facts.specs.Lists.{IsAmong, AreDifferent, below}
 
 -- ---- the variables
 
--- the inputs at this place of each parameter that has it, where the first parameter's inputs begin at a number
+-- the inputs at this place of each parameter that has it, where the first parameter's inputs begin
+-- at a number
 abbrev pub inputs_at : ℕ → ℕ → List ℕ → List ℕ
 inputs_at place first [] = []
 inputs_at place first (width ∷ rest) =
@@ -14,8 +15,9 @@ inputs_at place first (width ∷ rest) =
     ((first + place) ∷ inputs_at place (first + width) rest)
     (inputs_at place (first + width) rest)
 
--- The order of the variables, as inputs: place 0 of every parameter in the order of the parameters, then place 1
--- of every parameter that has one, and so on. No parameter has more places than there are inputs.
+-- The order of the variables, as inputs: place 0 of every parameter in the order of the parameters,
+-- then place 1 of every parameter that has one, and so on. No parameter has more places than there
+-- are inputs.
 abbrev pub variable_order : List ℕ → List ℕ
 variable_order params = flat_map (λ place. inputs_at place 0 params) (below (sum params))
 
@@ -32,8 +34,8 @@ EachInputIsOneVariable = (params : List ℕ) → IsOrderOf (sum params) (variabl
 
 -- ---- the inputs
 
--- One list of input bits comes before another: at the first variable at which they differ it has false and the
--- other true.
+-- One list of input bits comes before another: at the first variable at which they differ it has
+-- false and the other true.
 pub record IsBefore (order : List ℕ) (one other : List Bool) : Type 0 where
   pub before : List ℕ
   pub at : ℕ

@@ -1,6 +1,8 @@
--- The run of a program, from left to right: a case for each form of term, as the table of docs/LANGUAGE.md has it.
+-- The run of a program, from left to right: a case for each form of term, as the table of
+-- docs/LANGUAGE.md has it.
 --
--- It is written once for every type of bits that has constants, an XOR and an AND: no case asks for a bit.
+-- It is written once for every type of bits that has constants, an XOR and an AND: no case asks for
+-- a bit.
 use Rattle.std.specs.Prelude.{ℕ, zero, suc, ◌+◌, ◌-◌, leb, Bool, true, false, ◌&&◌, Option, Some, None, List, [], ◌∷◌, ◌++◌, length, take, drop, slice_get}
 use Rattle.std.specs.Prelude.{slice_set, ℤ, pos, negsuc, ◌+ℤ◌, ◌-ℤ◌, neg_ℤ, int_le, unsigned_abs, if◌then◌else◌}
 use Rattle.revs_tape.specs.declared.limits.TheConstants.{MOST_WRITES, MOST_CLAIMS}
@@ -27,8 +29,9 @@ use Rattle.revs_terms.specs.Trees.{assign, loop, bind, run}
 
 -- ---- values
 
--- What a term or a name has for its value: nothing, the location of a bit, the locations of a register, a number, or a function of
--- the names that are not taken yet, with its body and the values that it was made with.
+-- What a term or a name has for its value: nothing, the location of a bit, the locations of a
+-- register, a number, or a function of the names that are not taken yet, with its body and the
+-- values that it was made with.
 mutual
   pub data Value : Type 0 where
     unit : Value
@@ -384,7 +387,8 @@ module _ {B : Type 0} (bits : Bits B) where
       location ← bit_of env t
       claim_on kind location (place_of t) at
 
-    -- a chain: the bit so far, whose location is read at the first operand's place, with each next operand
+    -- a chain: the bit so far, whose location is read at the first operand's place, with each next
+    -- operand
     abbrev pub chain_of : (Ref → Ref → Entry) → (B → B → B) → Environment → Place → ℕ → List Tree
         → RunStep B Value
     chain_of entry op env first so_far [] = done (bit so_far)
@@ -437,7 +441,8 @@ module _ {B : Type 0} (bits : Bits B) where
       last ← number_of env b
       turns_of env (items_of items) at first (turns first last)
 
-  -- A term or a `for` with so many levels of depth left: it is entered, which counts one unit of work, and its parts are run one deeper.
+  -- A term or a `for` with so many levels of depth left: it is entered, which counts one unit of
+  -- work, and its parts are run one deeper.
   abbrev pub run_of : ℕ → Environment → Tree → RunStep B Value
   run_of zero env t = stops causes.Depth (place_of t)
   run_of (suc left) env t = do

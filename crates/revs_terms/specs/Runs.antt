@@ -45,8 +45,8 @@ params_in first (p ∷ ps) env = params_in (first + width_of p.width) ps
 module _ {B : Type 0} where
   abbrev pub locations_of : Place → Value → State B → Outcome B (List ℕ)
   locations_of at (bit location) s = went (location ∷ []) s
-  locations_of at (register locations) s = provided (leb (length locations) MOST_OUTPUTS) causes.Outputs at
-      (went locations s)
+  locations_of at (register locations) s =
+      provided (leb (length locations) MOST_OUTPUTS) causes.Outputs at (went locations s)
   locations_of at _ s = stuck causes.NoOutput at
 
   abbrev pub read_all : Bits B → Place → List ℕ → State B → Outcome B (List (Stamped B))
@@ -135,8 +135,8 @@ tape_of params outputs s =
       outputs = map (λ o. o.stamp) outputs;
     }
 
--- The run of a program is the same for all inputs but for its bits: it is stuck for all at the same place and for the same reason, or
--- leaves the same tape for all.
+-- The run of a program is the same for all inputs but for its bits: it is stuck for all at the same
+-- place and for the same reason, or leaves the same tape for all.
 abbrev pub SameForAll : Type 0
 SameForAll =
     (params : List Param) (body : Tree)

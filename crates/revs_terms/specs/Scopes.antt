@@ -11,7 +11,8 @@ use Rattle.revs_terms.specs.declared.term.Part.TheVariants as part
 use Rattle.revs_terms.specs.Trees.{Tree, Trees, ItemTrees, nil, cons, no_items, item, used, bool, reg, block, function, parts, apply, append, rotate, clean}
 use Rattle.revs_terms.specs.Trees.{assert, ands, xors, assign, loop, bind, run}
 
--- A tree with each used name bound, or the place of the first name without a binding, in text order.
+-- A tree with each used name bound, or the place of the first name without a binding, in text
+-- order.
 pub data Scoped (A : Type 0) : Type 0 where
   unbound : Place → Scoped A
   scoped : A → Scoped A
@@ -69,8 +70,9 @@ scoped_parts scope [] = scoped []
 scoped_parts scope (p ∷ ps) =
     and_then (scoped_part scope p) (λ q. and_then (scoped_parts scope ps) (λ qs. scoped (q ∷ qs)))
 
--- The tree with its names bound among those in scope, the nearest first. A name of a `let` is bound in the later items and in the
--- last expression of its block, or in the later items of its `for`. The name of a `for` is bound in its items.
+-- The tree with its names bound among those in scope, the nearest first. A name of a `let` is bound
+-- in the later items and in the last expression of its block, or in the later items of its `for`.
+-- The name of a `for` is bound in its items.
 abbrev mutual
   pub scoped_tree : List (List ℕ) → Tree → Scoped Tree
   scoped_tree scope (used name) = and_then (bound_name scope name) (λ n. scoped (used n))
@@ -127,7 +129,8 @@ second_of before (p ∷ ps) =
 abbrev pub params_scope : List Param → List (List ℕ)
 params_scope params = nearer (map (λ p. p.name) params) []
 
--- Why the scope rule fails, at the first place in text order: two parameters of one name, or a used name without a binding.
+-- Why the scope rule fails, at the first place in text order: two parameters of one name, or a used
+-- name without a binding.
 pub data ScopeVerdict : Type 0 where
   two_params : Place → ScopeVerdict
   unbound_name : Place → ScopeVerdict

@@ -14,7 +14,8 @@ abbrev pub unit_place : u.Unit → Place
 unit_place (units.Digits value at) = at
 unit_place (units.Name name) = name.at
 
--- the place of a term: that of its first token, or of the first token inside where the term stood in brackets
+-- the place of a term: that of its first token, or of the first token inside where the term stood
+-- in brackets
 abbrev mutual
   pub place_of : Tree → Place
   place_of (used name) = name.at
@@ -59,8 +60,9 @@ abbrev pub parts_are_formed : List Part → Bool
 parts_are_formed [] = true
 parts_are_formed (p ∷ ps) = part_is_formed p && parts_are_formed ps
 
--- whether each `And` and `Xor` in a term has two parts at least, each `Reg` an element, each `Apply` an argument, each `At` a
--- part, each function a name, each `For` an item and each number a first step, which is added
+-- whether each `And` and `Xor` in a term has two parts at least, each `Reg` an element, each
+-- `Apply` an argument, each `At` a part, each function a name, each `For` an item and each number a
+-- first step, which is added
 abbrev mutual
   pub is_formed : Tree → Bool
   is_formed (used name) = true
@@ -93,7 +95,8 @@ abbrev mutual
   items_are_formed no_items = true
   items_are_formed (item i is) = item_is_formed i && items_are_formed is
 
--- The forms that an expression has, the tightest first: a base, an atom, an application, a product, a sum, an expression.
+-- The forms that an expression has, the tightest first: a base, an atom, an application, a product,
+-- a sum, an expression.
 abbrev pub base : ℕ
 base = 0
 

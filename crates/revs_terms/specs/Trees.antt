@@ -1,4 +1,5 @@
--- Terms as contracts see them: trees, with lists in place of vectors. A `for` is a tree of its own, which stands as an item alone.
+-- Terms as contracts see them: trees, with lists in place of vectors. A `for` is a tree of its own,
+-- which stands as an item alone.
 use Rattle.std.specs.Prelude.{Bool, List, [], ◌∷◌}
 use Rattle.revc_base.specs.declared.place.Place.{Place}
 use Rattle.revs_terms.specs.declared.term.Name.{Name}
@@ -10,7 +11,8 @@ use Rattle.revs_terms.specs.declared.term.Item.TheOpen.{Item-F, Term-F, Lambda-F
 use Rattle.revs_terms.specs.declared.term.Item.TheOpen as layer
 use Rattle.revs_terms.specs.declared.term.Item.TheFolds.{fold-Term, fold-Item}
 
--- A term, an item of a block or a `for`, and the lists of them, which are those of the vectors' elements.
+-- A term, an item of a block or a `for`, and the lists of them, which are those of the vectors'
+-- elements.
 mutual
   pub data Tree : Type 0 where
     used : Name → Tree

@@ -1,5 +1,5 @@
--- Labels: the first claim that rests on each input and write of a tape, or the number of claims where
--- none does.
+-- Labels: the first claim that rests on each input and write of a tape, or the number of claims
+-- where none does.
 use Rattle.std.specs.Prelude.{◌≡◌, ℕ, ◌+◌, ◌<◌, ◌≤◌, ◌⊎◌, List, length, slice_get, slice_index}
 use Rattle.std.specs.Prelude.{Some}
 use Rattle.std.specs.List.{AllByRecursion}
@@ -41,7 +41,8 @@ pub record AreLabels (t : TapeView) (labels : List ℕ) : Type 0 where
   pub claims : HaveClaims t (claims_of t) labels
   pub passed : ArePassedOn t 0 labels
 
--- what becomes of the label of a slot, where these references get one: it stays, or becomes that one
+-- what becomes of the label of a slot, where these references get one: it stays, or becomes that
+-- one
 abbrev pub StaysOrBecomes : ℕ → List Ref → ℕ → List ℕ → List ℕ → ℕ → Type 0
 StaysOrBecomes inputs made label old new slot =
     (slice_index new slot ≡ slice_index old slot)

@@ -30,8 +30,8 @@ pub record IsScheduleOf (t : TapeView) (s : Schedule) : Type 0 where
       s.chains.next.items
   pub variables : AreVariables (inputs_of t) (variable_order t.params) s.variables.items
 
--- Under the claim with this number a reference comes before a slot: an earlier claim rests on it, or
--- this claim is the first that does, and its own slot is before.
+-- Under the claim with this number a reference comes before a slot: an earlier claim rests on it,
+-- or this claim is the first that does, and its own slot is before.
 abbrev pub ComesBefore : TapeView → List ℕ → ℕ → ℕ → Ref → Type 0
 ComesBefore t labels number slot ref =
     (label_of t labels ref < number)
@@ -58,7 +58,8 @@ pub record HasLabel (labels : List ℕ) (label slot : ℕ) : Type 0 where
   pub high : slot ≤ length labels
   pub here : slot < length labels → slice_index labels slot ≡ label
 
--- the claims through one pass the limit of a diagram; memory is wanted only where there is room for a node more
+-- the claims through one pass the limit of a diagram; memory is wanted only where there is room for
+-- a node more
 abbrev pub PassLimit : TapeView → ℕ → DiagramView → DdFault → Type 0
 PassLimit t claims d (faults.Full nodes) = HasMore t claims d.limit × (nodes ≡ d.limit)
 PassLimit t claims d (faults.Memory _) = length d.nodes < d.limit

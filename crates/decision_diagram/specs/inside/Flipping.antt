@@ -72,7 +72,8 @@ total o = o.target + o.left + o.right
 abbrev pub IsOneOf : Operands → ℕ → Type 0
 IsOneOf o h = (h ≡ o.target) ⊎ ((h ≡ o.left) ⊎ ((h ≡ o.right) ⊎ (h < 2)))
 
--- what a product of two numbers is where no node has to be looked at: false, or one of them where neither is false
+-- what a product of two numbers is where no node has to be looked at: false, or one of them where
+-- neither is false
 abbrev pub IsProduct : ℕ → ℕ → ℕ → Type 0
 IsProduct f g h = (h ≡ 0) ⊎ ((1 ≤ f) × (1 ≤ g) × ((h ≡ f) ⊎ (h ≡ g)))
 

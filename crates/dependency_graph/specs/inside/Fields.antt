@@ -5,7 +5,8 @@ use Rattle.dependency_graph.specs.Graphs.{GraphView, IsGraph}
 use Rattle.dependency_graph.specs.Uses.{last_uses_of}
 
 abbrev pub view_of : Inside → GraphView
-view_of g = record { inputs = g.inputs; nodes = g.nodes.items; sigs = g.sigs.items; outputs = g.outputs.items }
+view_of g = record
+    { inputs = g.inputs; nodes = g.nodes.items; sigs = g.sigs.items; outputs = g.outputs.items }
 
 -- the table holds the last use of each node
 abbrev pub IsKept : Inside → Type 0

@@ -14,14 +14,16 @@ abbrev pub count_of : Option (List GateView) → Option ℕ
 count_of None = None
 count_of (Some gates) = Some (length gates)
 
--- so many stand in place of each flip of so many positive controls among the lines, with those around them
+-- so many stand in place of each flip of so many positive controls among the lines, with those
+-- around them
 pub record CountsFlips (n controls around : ℕ) (count : Option ℕ) : Type 0 where
   pub counts : (lines : List ℕ) (target : ℕ) → IsGateOn n (flip_of lines target)
       → length lines ≡ controls → count_with around (split_positive n lines target) ≡ count
 
 -- so many gates and some more, where the limit allows them
 abbrev pub counted_within : (count more limit : ℕ) → Result ℕ SplitFault
-counted_within count more limit = if nat_le (count + more) limit then Ok (count + more) else Err Gates
+counted_within count more limit =
+    if nat_le (count + more) limit then Ok (count + more) else Err Gates
 
 -- so many gates and those in place of the gate at a place, of which there may be none
 abbrev pub counted_on : ℕ → Option ℕ → ℕ → ℕ → Result ℕ SplitFault

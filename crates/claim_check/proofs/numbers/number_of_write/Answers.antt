@@ -17,7 +17,8 @@ pub returns-in-Xor : goal.returns-in-Xor
 returns-in-Xor c =
     let at = c.entry.ensures ∙ ap Some c.in-Xor.is in
     answer_pair c.args.tape.now c.args.write _ _ _ exclusive_or _ _ c.args.numbers.now _ _ c.xor.result at refl
-    (λ l m. function-Xor c.args.tape.now c.requires.tape c.args.write _ _ l m at) c.number_at.ensures c.number_at-in-Xor.ensures c.requires.operands c.xor.ensures
+    (λ l m. function-Xor c.args.tape.now c.requires.tape c.args.write _ _ l m at)
+    c.number_at.ensures c.number_at-in-Xor.ensures c.requires.operands c.xor.ensures
 
 pub returns-in-And : goal.returns-in-And
 returns-in-And c =
