@@ -7,7 +7,6 @@
 mod lines;
 mod planner;
 mod replaying;
-mod searching;
 mod thinning;
 
 pub use planner::plan;

@@ -4,14 +4,15 @@ ghost use Rattle.circuit_plans.specs.declared.roles.Start.TheVariants.{Zero};
 ghost use Rattle.held_nodes.specs.Plans.{IsNarrowPlan};
 
 use crate::replaying::{Replayed, replay_of};
-use crate::searching::{Found, Sweeps, best_sweeps};
 use crate::thinning::thinned;
 use circuit_plans::{Budget, Planned};
 use line_moves::{script, shortened};
 use line_states::{Step, follow};
 use revc_base::Memory;
+use span_graphs::SpanGraph;
+use span_lowering::lowered;
 use span_rows::{Stop, number};
-use span_sweeps::SpanGraph;
+use span_search::{Found, Sweeps, best_sweeps};
 use std::alloc::Global;
 use sum_graph::SumGraph;
 
@@ -44,7 +45,7 @@ fn replayed(alloc: Global, sums: &SumGraph, ports: u32, budget: &Budget) -> Resu
         return Err(Stop::Lost);
     };
     let limit = ports.saturating_add(room);
-    let graph = SpanGraph::of(alloc, sums)?;
+    let graph = lowered(alloc, sums)?;
     let Sweeps { best, near } = best_sweeps(alloc, &graph, taken, room)?;
     if let Some(replayed) = replayed_thin(alloc, sums, &graph, &near, ports, limit)? {
         return Ok(replayed);

@@ -2,8 +2,9 @@
 use crate::lines::{RowLines, SavedLines, WorkLines};
 use line_moves::{FactorLines, Moves, Writing};
 use revc_base::Memory;
+use span_graphs::SpanGraph;
 use span_rows::{Add, Row, Stop};
-use span_sweeps::{End, Event, SpanGraph, Swept, Toggle};
+use span_sweeps::{End, Event, Swept, Toggle};
 use std::alloc::Global;
 
 /// The moves of a plan, and how many lines it has.

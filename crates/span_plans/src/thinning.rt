@@ -1,7 +1,9 @@
 // Lines that nodes without products can do without.
-use crate::searching::{Found, MOST_SWEPT};
+use span_graphs::{SpanGraph, Turn};
+use span_lowering::lowered;
 use span_rows::{Stop, is_set, set};
-use span_sweeps::{Event, Measures, SpanGraph, Swept, Turn, sweep};
+use span_search::{Found, MOST_SWEPT};
+use span_sweeps::{Event, Measures, Swept, sweep};
 use std::alloc::Global;
 use sum_graph::SumGraph;
 
@@ -17,7 +19,7 @@ pub fn thinned(
     if !marks.contains(&true) {
         return Ok(None);
     }
-    let mut thin = SpanGraph::of(alloc, sums)?;
+    let mut thin = lowered(alloc, sums)?;
     thin.write_out(alloc, &marks)?;
     let turns = turns_without(alloc, &found.turns, &marks)?;
     let swept = sweep(alloc, &thin, &turns, &found.forced, MOST_SWEPT)?;

@@ -1,8 +1,7 @@
 // Blocks: ranges of nodes that are undone but for what stays wanted of them.
 use crate::events::{End, Event};
-use crate::graph::{Node, SpanGraph};
-use crate::schedules::Range;
 use crate::toggles::Sweep;
+use span_graphs::{Node, Range, SpanGraph};
 use span_rows::{Inserted, Row, Stop, at, at_mut, is_set, number, set, sum_of};
 use std::alloc::Global;
 use std::mem;

@@ -5,18 +5,10 @@
 
 mod blocks;
 mod events;
-mod graph;
-mod making;
 mod measures;
-mod order;
-mod outputs;
-mod schedules;
 mod sweeping;
-mod thinning;
 mod toggles;
 
 pub use events::{End, Event, Factors, Toggle};
-pub use graph::{Node, Output, Product, SpanGraph};
 pub use measures::Measures;
-pub use schedules::{Range, Turn, chains, minima, schedule};
 pub use sweeping::{Swept, sweep};

@@ -1,6 +1,6 @@
 // What a plan costs, as far as a sweep tells.
 use crate::events::{End, Event, Toggle};
-use crate::graph::SpanGraph;
+use span_graphs::SpanGraph;
 use span_rows::{Row, Stop, number};
 
 /// The work lines and the gates of a plan. The CX gates are those of its replay, but that some of

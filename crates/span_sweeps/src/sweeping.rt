@@ -1,9 +1,8 @@
 // Sweeps over a schedule, from its end.
 use crate::events::{End, Event};
-use crate::graph::SpanGraph;
 use crate::measures::Measures;
-use crate::schedules::Turn;
 use crate::toggles::Sweep;
+use span_graphs::{SpanGraph, Turn};
 use span_rows::{Inserted, Row, Rows, Stop, number};
 use std::alloc::Global;
 

@@ -1,7 +1,7 @@
 // The turns of a sweep, each of which goes back over one toggle.
 use crate::blocks::Block;
 use crate::events::{Event, Factors, Toggle, toggle_of};
-use crate::graph::{Node, Product, SpanGraph};
+use span_graphs::{Node, Product, SpanGraph};
 use span_rows::{Add, Inserted, Row, Rows, Stop, at, sum_of};
 use std::alloc::Global;
 

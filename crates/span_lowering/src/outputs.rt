@@ -1,7 +1,7 @@
 // Outputs as sums of what is copied to their lines.
-use crate::graph::{Node, Output};
 use crate::order::Order;
 use bit_sums::Sum;
+use span_graphs::{Node, Output};
 use span_rows::{Stop, at, at_mut, number, sum_of};
 use std::alloc::Global;
 use sum_graph::SumGraph;

@@ -1,25 +1,27 @@
 // How the graph that is swept comes from a graph of sums.
-use crate::graph::{Node, Product, SpanGraph};
 use crate::order::Order;
 use crate::outputs::{outputs_of, top_node};
 use bit_sums::Sum;
+use span_graphs::{Node, Product, SpanGraph};
 use span_rows::{Stop, at, is_set, number, set};
 use std::alloc::Global;
 use sum_graph::SumGraph;
 
-impl SpanGraph {
-    /// The graph of these sums.
-    pub fn of(alloc: Global, graph: &SumGraph) -> Result<SpanGraph, Stop> {
-        let order = Order::of(alloc, graph)?;
-        let mut nodes = nodes_of(alloc, graph, &order)?;
-        mark_finals(alloc, graph.inputs(), &mut nodes)?;
-        let outputs = outputs_of(alloc, graph, &order, &mut nodes)?;
-        Ok(SpanGraph {
-            inputs: graph.inputs(),
-            nodes,
-            outputs,
-        })
-    }
+/// The graph that is swept for these sums.
+///
+/// # Errors
+///
+/// `Lost` where writing the outputs out takes too much work. Beside that only `Memory`.
+pub fn lowered(alloc: Global, graph: &SumGraph) -> Result<SpanGraph, Stop> {
+    let order = Order::of(alloc, graph)?;
+    let mut nodes = nodes_of(alloc, graph, &order)?;
+    mark_finals(alloc, graph.inputs(), &mut nodes)?;
+    let outputs = outputs_of(alloc, graph, &order, &mut nodes)?;
+    Ok(SpanGraph {
+        inputs: graph.inputs(),
+        nodes,
+        outputs,
+    })
 }
 
 fn nodes_of(alloc: Global, graph: &SumGraph, order: &Order) -> Result<Vec<Node>, Stop> {

@@ -1,7 +1,11 @@
 // Which schedule is swept for the best plan.
+use crate::blocks::{SHAPES, blocks_of};
+use crate::bounds::Bounds;
+use crate::rule::Rule;
 use revc_base::Memory;
-use span_rows::{Stop, is_set, set};
-use span_sweeps::{Event, Range, SpanGraph, Swept, Turn, chains, minima, schedule, sweep};
+use span_graphs::{Range, SpanGraph, Turn, chains, minima, schedule};
+use span_rows::Stop;
+use span_sweeps::{Swept, sweep};
 use std::alloc::Global;
 
 /// The most work that all sweeps of a search take together: the symbols that they add, and what
@@ -20,20 +24,6 @@ const MOST_ADDITIONS: usize = 4;
 /// The most sweeps by which the number of segments that are cleaned is looked for.
 const MOST_HALVINGS: u32 = 64;
 
-/// The blocks that are tried where no cleaning is enough: how many twentieths of the segments each
-/// has, 0 where there is none.
-const SHAPES: [[usize; 3]; 9] = [
-    [4, 0, 0],
-    [6, 0, 0],
-    [8, 0, 0],
-    [10, 0, 0],
-    [6, 6, 0],
-    [8, 6, 0],
-    [10, 6, 0],
-    [8, 6, 4],
-    [10, 5, 3],
-];
-
 /// How many rules are tried with blocks.
 const MOST_BLOCKED: usize = 2;
 
@@ -42,98 +32,6 @@ const MOST_OVER: u32 = 64;
 
 /// How a plan is measured: by Toffoli gates, then by lines times gates, then by lines.
 type Cost = (u64, u64, u32);
-
-// Where segments begin, and what earlier sweeps told.
-#[derive(Drop)]
-struct Rule {
-    starts: Vec<u32>,
-    /// Of each node, whether it took a line of its own, having no products.
-    copies: Vec<bool>,
-    /// Of each node, whether its rows are to have no other symbol.
-    forced: Vec<bool>,
-    /// The ranks of the last sweep.
-    ranks: Vec<u32>,
-    /// The work lines without cleaning.
-    work: u32,
-    /// The work lines with all segments cleaned.
-    least: u32,
-}
-
-impl Rule {
-    // All nodes in one segment, of which nothing is known yet.
-    fn whole(alloc: Global, nodes: usize) -> Result<Rule, Memory> {
-        Ok(Rule {
-            starts: Vec::from_slice(alloc, &[0])?,
-            copies: vec![in alloc; false; nodes]?,
-            forced: vec![in alloc; false; nodes]?,
-            ranks: Vec::new(alloc),
-            work: 0,
-            least: 0,
-        })
-    }
-
-    // What is known, for other segments.
-    fn with_starts(&self, alloc: Global, starts: &[u32]) -> Result<Rule, Memory> {
-        Ok(Rule {
-            starts: Vec::from_slice(alloc, starts)?,
-            copies: Vec::from_slice(alloc, &self.copies)?,
-            forced: Vec::from_slice(alloc, &self.forced)?,
-            ranks: Vec::new(alloc),
-            work: 0,
-            least: 0,
-        })
-    }
-
-    // A rule for each of these segments.
-    fn with_each(&self, alloc: Global, segments: &[Vec<u32>]) -> Result<Vec<Rule>, Memory> {
-        let mut rules = Vec::new(alloc);
-        for starts in segments {
-            rules.push(self.with_starts(alloc, starts)?)?;
-        }
-        Ok(rules)
-    }
-
-    // Learns from a sweep which nodes without products took a line of their own, or more than
-    // `most` additions; whether another sweep would go otherwise.
-    fn learn(&mut self, graph: &SpanGraph, events: &[Event], most: usize) -> Result<bool, Stop> {
-        let mut is_new = false;
-        for event in events {
-            is_new |= self.learn_event(graph, event, most)?;
-        }
-        Ok(is_new)
-    }
-
-    fn learn_event(&mut self, graph: &SpanGraph, event: &Event, most: usize) -> Result<bool, Stop> {
-        let Event::On {
-            toggle,
-            is_fresh,
-            ..
-        } = event
-        else {
-            return Ok(false);
-        };
-        if !is_linear(graph, toggle.node) || is_set(&self.copies, toggle.node) {
-            return Ok(false);
-        }
-        if *is_fresh {
-            set(&mut self.copies, toggle.node, true)?;
-            return Ok(self.starts.len() > 1);
-        }
-        if toggle.before.len() <= most {
-            return Ok(false);
-        }
-        set(&mut self.copies, toggle.node, true)?;
-        set(&mut self.forced, toggle.node, true)?;
-        Ok(true)
-    }
-}
-
-fn is_linear(graph: &SpanGraph, node: u32) -> bool {
-    match graph.nodes.get(node as usize) {
-        Some(node) => node.is_linear(),
-        None => false,
-    }
-}
 
 // What a sweep of a rule tells.
 #[derive(Clone, Copy)]
@@ -444,88 +342,4 @@ fn push_new(segments: &mut Vec<Vec<u32>>, starts: Vec<u32>) -> Result<(), Memory
         segments.push(starts)?;
     }
     Ok(())
-}
-
-// Blocks of so many twentieths of the segments, from the first on. Each ends at the segment before
-// which the rank is the least within a twentieth.
-fn blocks_of(
-    alloc: Global,
-    starts: &[u32],
-    shape: &[usize],
-    ranks: &[u32],
-) -> Result<Vec<Range>, Memory> {
-    let mut blocks = Vec::new(alloc);
-    let (mut from, mut share): (usize, usize) = (0, 0);
-    for twentieths in shape {
-        if *twentieths == 0 {
-            return Ok(blocks);
-        }
-        share = share.saturating_add(*twentieths);
-        let middle = starts.len().saturating_mul(share) / 20;
-        let Some(to) = least_within(starts, ranks, from, middle) else {
-            return Ok(Vec::new(alloc));
-        };
-        blocks.push(Range {
-            from: number_at(starts, from),
-            to: number_at(starts, to),
-        })?;
-        from = to;
-    }
-    Ok(blocks)
-}
-
-// The segment behind `from` with the least rank within a twentieth around `middle`.
-fn least_within(starts: &[u32], ranks: &[u32], from: usize, middle: usize) -> Option<usize> {
-    let near = starts.len() / 20;
-    let first = middle.saturating_sub(near).max(from.saturating_add(1));
-    let behind = middle
-        .saturating_add(near)
-        .saturating_add(1)
-        .min(starts.len());
-    let mut best: Option<(u32, usize, usize)> = None;
-    for segment in first..behind {
-        let rank = number_at(ranks, number_at(starts, segment) as usize);
-        let key = (rank, segment.abs_diff(middle), segment);
-        best = match best {
-            Some(least) if least <= key => best,
-            _ => Some(key),
-        };
-    }
-    let (_, _, segment) = best?;
-    Some(segment)
-}
-
-// The number at a place, 0 where there is none.
-fn number_at(numbers: &[u32], place: usize) -> u32 {
-    numbers.get(place).copied().unwrap_or(0)
-}
-
-// Numbers of cleaned segments that are too few (`no`) and enough (`yes`), and by how many lines the
-// room was passed there, and not filled here.
-#[derive(Clone, Copy)]
-struct Bounds {
-    no: usize,
-    yes: usize,
-    over: u32,
-    under: u32,
-}
-
-impl Bounds {
-    // A number between the two, by the rule of three or the half of both; none where there is none.
-    fn middle(&self, by_lines: bool) -> Option<usize> {
-        let width = self.yes.saturating_sub(self.no);
-        if width < 2 {
-            return None;
-        }
-        let (over, under) = (u64::from(self.over), u64::from(self.under));
-        let part = if by_lines {
-            (width as u64)
-                .saturating_mul(over)
-                .checked_div(over + under)
-        } else {
-            Some(width as u64 / 2)
-        };
-        let step = usize::try_from(part.unwrap_or(1)).unwrap_or(1);
-        Some(self.no.saturating_add(step.clamp(1, width - 1)))
-    }
 }
