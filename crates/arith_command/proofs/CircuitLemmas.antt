@@ -13,7 +13,7 @@ use Rattle.command_answers.specs.declared.fault.Fault.TheVariants as faults
 use Rattle.circuit_plans.specs.declared.roles.Roles.{Roles}
 use Rattle.circuit_plans.specs.declared.roles.Start.TheVariants.{Any}
 use Rattle.mct_circuit.specs.Gates.{GateView}
-use Rattle.program_commands.specs.Clean.{IsCleanCircuit}
+use Rattle.program_texts.specs.Clean.{IsCleanCircuit}
 use Rattle.program_commands.specs.Compile.{IsCompiled, PassesBudget}
 use Rattle.program_commands.specs.Outcomes.{IsBudgetFault, IsCompileFault}
 use Rattle.program_commands.proofs.CompileLemmas.{budgets_alone}

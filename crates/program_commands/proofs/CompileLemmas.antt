@@ -8,8 +8,8 @@ use Rattle.revc_words.specs.Words.{OrderView}
 use Rattle.command_answers.specs.Outcomes.{HasOneOutcome, IsFaultOfText, IsNoBudget}
 use Rattle.program_commands.specs.Compile.{HasFittingRow, IsCause, KeepsBudget, PassesBudget, PassesGates, PassesLines, promise}
 use Rattle.program_commands.specs.Outcomes.{IsBudgetFault, IsCompileFault}
-use Rattle.program_commands.specs.Settling.{LeavesSettled}
-use Rattle.program_commands.proofs.SettlingLemmas.{never_stopped, one_left, one_stop, settled_or_stopped}
+use Rattle.program_texts.specs.Settling.{LeavesSettled}
+use Rattle.program_texts.proofs.SettlingLemmas.{never_stopped, one_left, one_stop, settled_or_stopped}
 use Rattle.revs_parser.specs.WellFormed.{IsWellFormed}
 use Rattle.revs_terms.specs.Runs.{IsTapeOf}
 use Rattle.revs_terms.specs.Views.{ProgramView}

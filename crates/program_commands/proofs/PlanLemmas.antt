@@ -20,7 +20,8 @@ use Rattle.real_format.proofs.MeaningLemmas as real
 use Rattle.mct_circuit.specs.Sizes.{counts_of}
 use Rattle.circuit_plans.specs.declared.choice.How.TheVariants.{Lean}
 use Rattle.plan_choice.specs.Choices.{IsChosen, IsCompact, IsLean, LeanFits}
-use Rattle.program_commands.specs.Outcomes.{IsCompileFault, IsSettlingFault, IsWritable, file_of}
+use Rattle.program_commands.specs.Outcomes.{IsCompileFault, IsWritable, file_of}
+use Rattle.program_texts.specs.Outcomes.{IsSettlingFault, IsTextFault}
 use Rattle.revc_words.specs.declared.order.Format.{Format}
 use Rattle.revc_words.specs.declared.order.Format.TheVariants.{Real, Qasm}
 use Rattle.revs_tape.specs.Measures.{ands_of}
@@ -32,11 +33,13 @@ use Rattle.revs_terms.specs.Views.{ProgramView}
 use Rattle.revs_terms.proofs.TapeLemmas.{tape_gives_output}
 use Rattle.command_answers.specs.declared.fault.Fault.{Fault}
 use Rattle.command_answers.specs.declared.fault.Fault.TheVariants as faults
-use Rattle.program_commands.specs.Clean.{ComputesOn, MeansCompiledIn}
+use Rattle.command_answers.specs.declared.fault.Refusal.TheVariants as refusals
+use Rattle.program_texts.specs.Clean.{ComputesOn}
+use Rattle.program_commands.specs.Clean.{MeansCompiledIn}
 use Rattle.program_commands.specs.Compile.{HasFewToffoliGates, HasLeanSize, IsCompiled, LeanRowFits, budget_of, least_lines, row_gates, row_lines}
-use Rattle.program_commands.specs.Settling.{LeavesTape, LeavesSettled, ForTexts, IsSettledWithin}
+use Rattle.program_texts.specs.Settling.{LeavesTape, LeavesSettled, ForTexts, IsSettledWithin}
 use Rattle.program_commands.specs.inside.Plans.{IsCleanPlan, IsPlanOf, IsPlannedFor, IsPlanningFault}
-use Rattle.program_commands.proofs.FormedLemmas.{some_output}
+use Rattle.program_texts.proofs.FormedLemmas.{some_output}
 
 -- ---- the plan of the graph
 
@@ -237,7 +240,14 @@ planning_fault order text tape s (faults.Gates limit) l is no_larger h =
 planning_fault order text tape s (faults.Memory _) l is no_larger h = tt
 planning_fault order text tape s fault l is no_larger h = absurd h
 
--- what stops the claims stops the file
+-- what refuses a text stops the file
+pub stops_compile : (order : OrderView) (text : List ℕ) (fault : Fault) → IsTextFault text fault → IsCompileFault order text fault
+stops_compile order text (faults.Refused (refusals.At kind at)) h = h
+stops_compile order text (faults.Refused refusals.TooLong) h = absurd h
+stops_compile order text (faults.Memory _) h = tt
+stops_compile order text fault h = absurd h
+
+-- and so does what stops the claims
 pub settling_fault : (order : OrderView) (text : List ℕ) (fault : Fault) → IsSettlingFault text order.nodes fault → IsCompileFault order text fault
 settling_fault order text (faults.Memory _) h = tt
 settling_fault order text (faults.Lines need limit) h = absurd h
@@ -248,7 +258,7 @@ pub settling_stops : (order : OrderView) (tape : TapeView) (fault : Fault) → F
     → ForTexts tape (λ text. IsCompileFault order text fault)
 settling_stops order tape fault h = record { of_text = λ text left. settling_fault order text fault (h.of_text text left) }
 
--- and so does what leaves a settled graph without a plan
+-- and what leaves a settled graph without a plan
 pub planning_stops : {T : Type 0} (order : OrderView) (tape : TapeView) (s : SettledView) (r : Result T Fault) → IsSettledWithin tape order.nodes s
     → IfErr r (IsPlanningFault order.plan s (budget_of order)) → IfErr r (λ fault. ForTexts tape (λ text. IsCompileFault order text fault))
 planning_stops order tape s (Ok laid) settled h = tt

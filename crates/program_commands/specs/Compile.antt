@@ -1,7 +1,7 @@
 -- `compile`: the file of a program's clean circuit.
 use Rattle.std.specs.Prelude.{◌≡◌, ◌⊎◌, ℕ, ◌+◌, ◌*◌, ◌≤◌, List, length, max, Some, [], ◌∷◌}
 use Rattle.command_answers.specs.Outcomes.{Promise, budget_promise}
-use Rattle.program_commands.specs.Refusals.{program_limit}
+use Rattle.program_texts.specs.Refusals.{program_limit}
 use Rattle.claim_check.specs.Budgets.{Measures}
 use Rattle.claim_check.specs.Measures.{AreMeasuresOf, IsNoLarger}
 use Rattle.claim_check.specs.Settled.{SettledView, IsSettledOf}
@@ -18,8 +18,9 @@ use Rattle.revs_parser.specs.WellFormed.{IsWellFormed}
 use Rattle.revs_terms.specs.Views.{ProgramView}
 use Rattle.command_answers.specs.declared.fault.Fault.{Fault}
 use Rattle.command_answers.specs.declared.fault.Fault.TheVariants.{Lines, Gates}
-use Rattle.program_commands.specs.Clean.{IsClean, IsCleanCircuit, file_text}
-use Rattle.program_commands.specs.Settling.{LeavesSettled, LeavesTape, StopsSettling}
+use Rattle.program_texts.specs.Clean.{IsCleanCircuit}
+use Rattle.program_commands.specs.Clean.{IsClean, file_text}
+use Rattle.program_texts.specs.Settling.{LeavesSettled, LeavesTape, StopsSettling}
 
 -- the budget that an order gives
 abbrev pub budget_of : OrderView → BudgetView

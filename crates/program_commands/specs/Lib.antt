@@ -1,9 +1,5 @@
-pub mod Refusals
 pub mod Clean
-pub mod Settling
 pub mod Compile
-pub mod Check
-pub mod Eval
 pub mod Gen
 pub mod Bench
 pub mod Outcomes

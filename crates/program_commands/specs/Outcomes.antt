@@ -1,19 +1,16 @@
--- What the calls of the commands on programs take and answer.
+-- What the calls of these commands take and answer.
 use Rattle.std.specs.Prelude.{ℕ, ◌≤◌, List, length}
 use Rattle.circuit_plans.specs.declared.plan.TheConstants.{MOST_LINES, MOST_GATES}
 use Rattle.circuit_plans.specs.Plans.{LaidView, roles_of}
 use Rattle.program_gen.specs.declared.adder.TheConstants.{MOST_BITS}
 use Rattle.command_answers.specs.declared.fault.Fault.{Fault}
 use Rattle.command_answers.specs.declared.fault.Fault.TheVariants as faults
-use Rattle.command_answers.specs.declared.fault.Fault.TheVariants.{Memory, Refused}
-use Rattle.command_answers.specs.declared.fault.Refusal.TheVariants.{At}
+use Rattle.command_answers.specs.declared.fault.Fault.TheVariants.{Memory}
 use Rattle.revc_words.specs.declared.order.Format.{Format}
 use Rattle.revc_words.specs.Words.{OrderView}
 use Rattle.program_commands.specs.Clean.{file_text}
 use Rattle.program_commands.specs.Compile.{PassesBudget, PassesLines, PassesGates}
-use Rattle.program_commands.specs.Eval.{Stops}
-use Rattle.program_commands.specs.Refusals.{IsRefusal}
-use Rattle.program_commands.specs.Settling.{StopsSettling}
+use Rattle.program_texts.specs.Settling.{StopsSettling}
 
 -- an adder of so many bits is made
 pub record IsAdderSize (number : ℕ) : Type 0 where
@@ -30,17 +27,6 @@ pub record IsWritable (laid : LaidView) : Type 0 where
   pub few : laid.circuit.lines ≤ MOST_LINES
   pub few_gates : length laid.circuit.gates ≤ MOST_GATES
 
--- why a text leaves no tape: it is refused at a place, or there was no memory left
-abbrev pub IsTextFault : List ℕ → Fault → Type 0
-IsTextFault text (Refused (At kind at)) = IsRefusal text (At kind at)
-IsTextFault text (Memory _) = Unit {0}
-IsTextFault text _ = ⊥
-
--- why the claims of a text are not settled, or there was no memory left
-abbrev pub IsSettlingFault : List ℕ → ℕ → Fault → Type 0
-IsSettlingFault text nodes (Memory _) = Unit {0}
-IsSettlingFault text nodes fault = StopsSettling text nodes fault
-
 -- why a text has no clean plan, or there was no memory left
 abbrev pub IsCompileFault : OrderView → List ℕ → Fault → Type 0
 IsCompileFault order text (Memory _) = Unit {0}
@@ -52,8 +38,3 @@ IsCompileFault order text fault = StopsSettling text order.nodes fault
 abbrev pub IsBudgetFault : OrderView → List ℕ → Fault → Type 0
 IsBudgetFault order text (Memory _) = Unit {0}
 IsBudgetFault order text fault = PassesBudget order text fault
-
--- why a text and a word give no value, or there was no memory left
-abbrev pub IsEvalFault : List ℕ → List ℕ → Fault → Type 0
-IsEvalFault text word (Memory _) = Unit {0}
-IsEvalFault text word fault = Stops text word fault

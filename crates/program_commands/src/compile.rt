@@ -8,9 +8,9 @@ ghost use Rattle.revc_io.specs.Passing.{Writes};
 ghost use Rattle.revc_words.specs.Words.{IsWithinLimits, order_of};
 
 use crate::planning::plan_tape;
-use crate::program::tape_of_text;
 use circuit_plans::Laid;
 use command_answers::Fault;
+use program_texts::tape_of_text;
 use revc_io::{Failed, Sink};
 use revc_words::{Format, Order};
 use revs_parser::MOST_BYTES;

@@ -5,14 +5,14 @@ ghost use Rattle.program_commands.specs.Compile.{budget_of};
 ghost use Rattle.program_commands.specs.Outcomes.{IsCompileFault};
 ghost use Rattle.program_commands.specs.inside.Mappings.{plan_fault};
 ghost use Rattle.program_commands.specs.inside.Plans.{IsPlanOf, IsPlannedFor};
-ghost use Rattle.program_commands.specs.Settling.{ForTexts};
+ghost use Rattle.program_texts.specs.Settling.{ForTexts};
 ghost use Rattle.program_commands.specs.inside.Plans.{IsPlanningFault};
 
-use crate::settling::settle_tape;
 use circuit_plans::{Budget, Laid, PlanFault};
 use claim_check::Settled;
 use command_answers::Fault;
 use plan_choice::choose;
+use program_texts::settle_tape;
 use revc_words::Order;
 use revs_tape::Tape;
 use std::alloc::Global;

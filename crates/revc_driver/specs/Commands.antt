@@ -7,8 +7,8 @@ use Rattle.revc_words.specs.declared.commands.Command.{Command}
 use Rattle.revc_words.specs.declared.commands.Command.TheVariants as commands
 use Rattle.revc_words.specs.Words.{OrderView}
 use Rattle.program_commands.specs.Compile as compile
-use Rattle.program_commands.specs.Check as check
-use Rattle.program_commands.specs.Eval as eval
+use Rattle.program_texts.specs.Check as check
+use Rattle.program_texts.specs.Eval as eval
 use Rattle.program_commands.specs.Gen as gen
 use Rattle.program_commands.specs.Bench as bench
 use Rattle.circuit_commands.specs.Stat as stat

@@ -5,7 +5,7 @@ ghost use Rattle.revc_io.specs.Faults.{HasCause};
 ghost use Rattle.revc_io.specs.Passing.{Writes};
 ghost use Rattle.revc_words.specs.Words.{IsWithinLimits, order_of};
 ghost use Rattle.command_answers.specs.Outcomes.{HasOneOutcome};
-ghost use Rattle.program_commands.specs.Refusals.{program_limit};
+ghost use Rattle.program_texts.specs.Refusals.{program_limit};
 ghost use Rattle.circuit_commands.specs.Circuits.{circuit_limit};
 ghost use Rattle.revc_driver.specs.Commands.{Gives, most_bytes, promise_of, reads_of};
 ghost use Rattle.revc_driver.specs.inside.Ends.{IsCauseOrMemory};
@@ -21,7 +21,8 @@ use command_answers::{
     CircuitRefusal, Fault, Refusal, TextLimit, write_digits, write_lines, write_number,
 };
 use program_commands::bench::BenchSizes;
-use program_commands::{bench, check, compile, eval, generate};
+use program_commands::{bench, compile, generate};
+use program_texts::{check, eval};
 use revc_base::Bits;
 use revc_io::{Failed, Sink};
 use revc_words::{Command, Format, Order};

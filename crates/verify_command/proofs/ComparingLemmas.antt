@@ -19,9 +19,9 @@ use Rattle.command_answers.specs.declared.fault.Fault.TheVariants as faults
 use Rattle.command_answers.specs.declared.fault.Refusal.TheVariants as refusals
 use Rattle.circuit_plans.specs.Plans.{lines_in}
 use Rattle.mct_circuit.specs.Gates.{AreGatesOn, CircuitView}
-use Rattle.program_commands.specs.Clean.{IsCleanCircuit}
-use Rattle.program_commands.specs.Outcomes.{IsSettlingFault, IsTextFault}
-use Rattle.program_commands.specs.Settling.{ForTexts, IsSettledWithin, LeavesSettled, LeavesTape}
+use Rattle.program_texts.specs.Clean.{IsCleanCircuit}
+use Rattle.program_texts.specs.Outcomes.{IsSettlingFault, IsTextFault}
+use Rattle.program_texts.specs.Settling.{ForTexts, IsSettledWithin, LeavesSettled, LeavesTape}
 use Rattle.revc_words.specs.Words.{OrderView}
 use Rattle.revs_tape.specs.Tapes.{TapeView, bit_on, outputs_on}
 use Rattle.revs_terms.proofs.TapeLemmas.{tape_gives_output}

@@ -13,10 +13,10 @@ use Rattle.command_answers.specs.declared.fault.Fault.{Fault}
 use Rattle.command_answers.specs.declared.fault.Fault.TheVariants as faults
 use Rattle.command_answers.specs.declared.fault.Refusal.{Refusal}
 use Rattle.command_answers.specs.declared.fault.Refusal.TheVariants as refusals
-use Rattle.program_commands.specs.Refusals.{IsRefusal}
-use Rattle.program_commands.specs.Settling.{LeavesTape, StopsSettling}
-use Rattle.program_commands.proofs.RefusalLemmas.{never_refused, one_refusal}
-use Rattle.program_commands.proofs.SettlingLemmas.{one_left, one_stop, settled_or_stopped}
+use Rattle.program_texts.specs.Refusals.{IsRefusal}
+use Rattle.program_texts.specs.Settling.{LeavesTape, StopsSettling}
+use Rattle.program_texts.proofs.RefusalLemmas.{never_refused, one_refusal}
+use Rattle.program_texts.proofs.SettlingLemmas.{one_left, one_stop, settled_or_stopped}
 use Rattle.revc_words.specs.Words.{OrderView}
 use Rattle.revs_parser.specs.declared.limits.TheConstants.{MOST_BYTES}
 use Rattle.revs_tape.specs.Tapes.{TapeView}

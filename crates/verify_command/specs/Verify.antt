@@ -13,9 +13,9 @@ use Rattle.command_answers.specs.declared.fault.Fault.{Fault}
 use Rattle.command_answers.specs.declared.fault.Fault.TheVariants.{Refused, Claim, Diagram, CircuitDiagram, Circuit, FewLines, WideGate, Differs, Unsettled, NoPart}
 use Rattle.command_answers.specs.declared.fault.Refusal.TheVariants as refusals
 use Rattle.command_answers.specs.declared.limit.TextLimit.{TextLimit}
-use Rattle.program_commands.specs.Clean.{IsCleanCircuit}
-use Rattle.program_commands.specs.Refusals.{IsRefusal}
-use Rattle.program_commands.specs.Settling.{LeavesSettled, LeavesTape, StopsSettling}
+use Rattle.program_texts.specs.Clean.{IsCleanCircuit}
+use Rattle.program_texts.specs.Refusals.{IsRefusal}
+use Rattle.program_texts.specs.Settling.{LeavesSettled, LeavesTape, StopsSettling}
 use Rattle.revc_words.specs.Words.{OrderView}
 use Rattle.revc_words.specs.declared.order.Way.{Way}
 use Rattle.revc_words.specs.declared.order.Way.TheVariants as ways

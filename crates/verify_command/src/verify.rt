@@ -16,7 +16,7 @@ use crate::limits::MOST_SOURCE_BYTES;
 use crate::parting::part;
 use circuit_commands::{MOST_CIRCUIT_BYTES, read_circuit};
 use command_answers::{CircuitRefusal, Fault, Refusal, TextLimit};
-use program_commands::{settle_tape, tape_of_text};
+use program_texts::{settle_tape, tape_of_text};
 use revc_io::{Failed, Sink, write_whole};
 use revc_words::Order;
 use revs_parser::MOST_BYTES;

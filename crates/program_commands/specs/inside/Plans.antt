@@ -5,23 +5,17 @@ use Rattle.circuit_plans.specs.declared.plan.TheConstants.{MOST_LINES, MOST_GATE
 use Rattle.circuit_plans.specs.Plans.{BudgetView, LaidView, roles_of, start_of}
 use Rattle.circuit_plans.specs.declared.roles.Start.{Start}
 use Rattle.held_nodes.specs.Plans.{wanted_lines}
-use Rattle.inliner.specs.Faults.{IsRefused}
-use Rattle.inliner.specs.declared.fault.RunFault.{RunFault}
 use Rattle.mct_circuit.specs.Gates.{AreGatesOn, AreNarrow}
 use Rattle.circuit_plans.specs.declared.choice.How.{How}
 use Rattle.plan_choice.specs.Choices.{GatesAreFew, IsChosen, IsLaidFor, LinesAreFew}
 use Rattle.revs_tape.specs.Tapes.{TapeView}
 use Rattle.revc_words.specs.Words.{OrderView}
-use Rattle.revs_parser.specs.WellFormed.{IsProgramText}
 use Rattle.revs_terms.specs.Runs.{IsTapeOf}
-use Rattle.revs_terms.specs.Scopes.{scope_verdict, bound_as}
 use Rattle.revs_terms.specs.Views.{ProgramView}
 use Rattle.command_answers.specs.declared.fault.Fault.{Fault}
-use Rattle.command_answers.specs.declared.fault.Fault.TheVariants.{Lines, Gates, BadBits, Memory}
-use Rattle.command_answers.specs.BitWords.{IsInputWord}
+use Rattle.command_answers.specs.declared.fault.Fault.TheVariants.{Lines, Gates, Memory}
 use Rattle.program_commands.specs.Compile.{HasCircuit}
 use Rattle.program_commands.specs.Outcomes.{IsWritable}
-use Rattle.program_commands.specs.inside.Mappings.{run_fault}
 
 -- a plan of a program's settled graph, within a budget
 pub record IsCleanPlan (start : Start) (laid : LaidView) (p : ProgramView) (b : BudgetView)
@@ -61,25 +55,3 @@ IsPlanningFault how s b (Lines need limit) =
 IsPlanningFault how s b (Gates limit) = GatesAreFew how s b × (limit ≡ b.gates)
 IsPlanningFault how s b (Memory _) = Unit {0}
 IsPlanningFault how s b _ = ⊥
-
--- the program with its names bound
-pub record IsBoundAs (p bound : ProgramView) : Type 0 where
-  pub params : bound.params ≡ p.params
-  pub body : scope_verdict p.params p.body ≡ bound_as bound.body
-
--- this holds of each text of the program
-pub record ForTextsOf (p : ProgramView) (OfText : List ℕ → Type 0) : Type 0 where
-  pub of_text : (text : List ℕ) → IsProgramText text p → OfText text
-
--- the run of a program with its names bound is stuck on every input, or there was no memory left
-pub record IsRunFault (bound : ProgramView) (fault : Fault) : Type 0 where
-  pub why : RunFault
-  pub is : fault ≡ run_fault why
-  pub stuck : IsRefused bound.params bound.body why
-
--- why a word gives no input of so many bits, or there was no memory left, which is asked for only
--- where it gives one
-abbrev pub IsBitsFault : ℕ → List ℕ → Fault → Type 0
-IsBitsFault inputs word (BadBits number) = (number ≡ 1) × (¬ IsInputWord inputs word)
-IsBitsFault inputs word (Memory _) = IsInputWord inputs word
-IsBitsFault inputs word _ = ⊥

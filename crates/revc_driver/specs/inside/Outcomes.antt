@@ -8,7 +8,7 @@ use Rattle.circuit_commands.specs.Convert.{file_text}
 use Rattle.circuit_commands.specs.Stat.{stat_text}
 use Rattle.command_answers.specs.Lines.{bits_text}
 use Rattle.program_commands.specs.Bench.{bench_text}
-use Rattle.program_commands.specs.Check.{claims_text}
+use Rattle.program_texts.specs.Check.{claims_text}
 use Rattle.program_commands.specs.Outcomes.{IsWritable, file_of}
 use Rattle.verify_command.specs.Verify.{verified_text}
 

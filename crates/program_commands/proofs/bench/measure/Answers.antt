@@ -1,7 +1,7 @@
 use Rattle.std.proofs.Common.{length, ◌≤◌, ◌∙◌, subst, sym, List, ℕ}
-use Rattle.program_commands.specs.Settling.{LeavesTape}
+use Rattle.program_texts.specs.Settling.{LeavesTape}
 use Rattle.program_commands.proofs.BenchLemmas.{adds, bench_faults}
-use Rattle.program_commands.proofs.TextLemmas.{stops_compile}
+use Rattle.program_commands.proofs.PlanLemmas.{stops_compile}
 use Rattle.program_gen.specs.Adder.{adder_text}
 use Rattle.revc_words.specs.Words.{order_of}
 use Rattle.revs_parser.specs.declared.limits.TheConstants.{MOST_BYTES}

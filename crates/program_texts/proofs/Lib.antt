@@ -1,0 +1,6 @@
+pub mod RefusalLemmas
+pub mod EvalLemmas
+pub mod TextLemmas
+pub mod FormedLemmas
+pub mod SettlingLemmas
+pub mod CheckLemmas

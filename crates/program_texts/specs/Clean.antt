@@ -1,0 +1,32 @@
+-- What a clean circuit of a program is: what it computes, and what its lines hold before and
+-- behind.
+use Rattle.std.specs.Prelude.{◌≡◌, ℕ, Bool, List, length, sum}
+use Rattle.circuit_plans.specs.Plans.{AddsOutput, MayHold, lines_in}
+use Rattle.circuit_plans.specs.declared.roles.Roles.{Roles}
+use Rattle.circuit_plans.specs.declared.roles.Start.{Start}
+use Rattle.mct_circuit.specs.Gates.{GateView, AreGatesOn, AreNarrow}
+use Rattle.revs_terms.specs.Programs.{widths_of}
+use Rattle.revs_terms.specs.Runs.{IsInput, HasOutput}
+use Rattle.revs_terms.specs.Views.{ProgramView}
+
+-- on this input, whatever the borrowed lines hold, the gates add the program's output to whatever
+-- the output lines may hold
+pub record ComputesOn (p : ProgramView) (start : Start) (roles : Roles) (gates : List GateView)
+    (input borrowed : List Bool) : Type 0 where
+  pub output : List Bool
+  pub is : HasOutput p.params p.body input output
+  pub size : length output ≡ roles.outputs
+  pub adds : (held : List Bool) → length held ≡ roles.outputs → MayHold start held
+      → AddsOutput roles gates input held output borrowed
+
+-- A clean circuit for a program, with so many borrowed lines: its gates are on lines of these
+-- roles, each a flip with at most two controls, all positive, on different lines; and they compute
+-- the program on every input, whatever the output lines may hold at the start.
+pub record IsCleanCircuit (p : ProgramView) (start : Start) (borrowed : ℕ) (roles : Roles)
+    (gates : List GateView) : Type 0 where
+  pub inputs : roles.inputs ≡ sum (widths_of p.params)
+  pub borrows : roles.borrowed ≡ borrowed
+  pub placed : AreGatesOn (lines_in roles) gates
+  pub narrow : AreNarrow gates
+  pub computes : (input bits : List Bool) → IsInput p.params input → length bits ≡ borrowed
+      → ComputesOn p start roles gates input bits
