@@ -8,7 +8,7 @@ use Rattle.revs_lexer.specs.declared.token.Tok.TheVariants as toks
 use Rattle.revs_lexer.specs.declared.token.Token.{Token}
 use Rattle.revs_grammar.specs.declared.profile.Profile.{Profile}
 use Rattle.revs_grammar.specs.declared.profile.Profile.TheVariants as profiles
-use Rattle.revs_grammar.specs.Forms.{any_name, word, sign, code, in_profile, common}
+use Rattle.revs_grammar.specs.Forms.{any_name, word, sign, code, in_profile}
 use Rattle.revs_grammar.specs.Forms as g
 use Rattle.revs_grammar.specs.Sentences.{token, kept_token, opening_token, form, by_line, done, few_levels}
 use Rattle.revs_grammar.specs.inside.Machine.{Stack, is_optional}

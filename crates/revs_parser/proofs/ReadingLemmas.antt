@@ -347,6 +347,11 @@ module _ {p : Profile} where
   chain_alone infixes.Xor l {ts = ts} {rest = rest} r k = record { reads = none_behind (sum_line l ts) r.reads (no_product l rest k) }
   chain_alone infixes.And l {ts = ts} {rest = rest} r k = record { reads = none_behind (product_line l ts) r.reads (no_application l rest k) }
 
+  pub chain_no_next : (x : Infix) (l : ℕ) {read : List Tree} {ts behind : List Token} {stop : Stop} → InChain p x l read ts behind
+      → Halts (in_operand x p l) behind stop → Halts (in_chain x p l) ts stop
+  chain_no_next infixes.Xor l c h = chain_halts c.so_far h
+  chain_no_next infixes.And l c h = chain_halts c.so_far h
+
   pub chain_no_first : (x : Infix) (l : ℕ) {ts : List Token} {stop : Stop} → Halts (in_operand x p l) ts stop → Halts (in_chain x p l) ts stop
   chain_no_first infixes.Xor l {ts = ts} h = halts_past (sum_line l ts) (halts_first (form (in_profile p g.sums) l ∷ []) h)
   chain_no_first infixes.And l {ts = ts} h = halts_past (product_line l ts) (halts_first (form (in_profile p g.products) l ∷ []) h)

@@ -19,12 +19,14 @@ ghost use Rattle.revs_parser.specs.inside.Forms.{EndsPiece, HeadsFor, NoFor, Rea
 ghost use Rattle.revs_parser.specs.inside.Forms.{in_range, ReadsLoop, in_loop, GivesAt, in_parts};
 ghost use Rattle.revs_parser.specs.inside.Forms.{infix_sign, infix_term, ReadsChain, in_chain};
 ghost use Rattle.revs_parser.specs.inside.Forms.{ReadsOperand, in_operand, ReadsOpened, in_opened};
-ghost use Rattle.revs_parser.specs.inside.Forms.{NoPartBehind};
+ghost use Rattle.revs_parser.specs.inside.Forms.{NoPartBehind, ReadsAssigned, ReadsOperated};
+ghost use Rattle.revs_parser.specs.inside.Forms.{in_atom, ReadsMore, HaltsMore};
 ghost use Rattle.revs_parser.specs.declared.stop.Stop.{Stop};
+ghost use Rattle.revs_parser.specs.declared.expression.Infix.TheVariants as infixes;
 ghost use Rattle.revs_terms.specs.Trees.{tree_of, item_tree_of};
 
 use crate::build::{assignment, bound_value, function_of, joined, operation, with_parts};
-use crate::front::{Opener, first_opener, first_operator};
+use crate::front::{Opener, Operator, first_opener, first_operator};
 use crate::leaf::{after, after_word, begins_name, expect, expect_word, name, single_base};
 use crate::numbers::num;
 use crate::stop::{Stop, both, put, put_alone};
@@ -251,8 +253,19 @@ impl Reader {
         let Some((_, behind)) = after(rest, Sign::Assign) else {
             return Ok((left, rest));
         };
-        let (left, (right, rest)) = both(left, self.chained(behind, Infix::Xor))?;
-        let term = assignment(self.alloc, left, right)?;
+        self.assigned(left, behind)
+    }
+
+    // What is assigned to a term, behind the sign.
+    #[cycle(read)]
+    fn assigned(self, target: Term, tokens: Rest) -> Result<(Term, Rest), Stop>
+        requires { self.level ≤ MOST_LEVELS }
+        ensures { Gives
+            (λ term. ReadsAssigned self.profile self.level (tree_of target) (tree_of term))
+            (in_chain infixes.Xor self.profile self.level) tokens.entry result }
+    {
+        let (target, (value, rest)) = both(target, self.chained(tokens, Infix::Xor))?;
+        let term = assignment(self.alloc, target, value)?;
         Ok((term, rest))
     }
 
@@ -269,7 +282,8 @@ impl Reader {
         Ok((term, rest))
     }
 
-    // The operands of a chain, one after another.
+    // The operands of a chain, one after another. Most chains are one operand, so that what more
+    // of them want stands apart.
     #[cycle(read)]
     fn chained(self, tokens: Rest, operator: Infix) -> Result<(Term, Rest), Stop>
         requires { self.level ≤ MOST_LEVELS }
@@ -277,9 +291,28 @@ impl Reader {
             (in_chain operator self.profile self.level) tokens.entry result }
     {
         let (first, rest) = self.operand(tokens, operator)?;
-        let Some((_, mut behind)) = after(rest, operator.sign()) else {
+        let Some((_, behind)) = after(rest, operator.sign()) else {
             return Ok((first, rest));
         };
+        self.chained_behind(first, behind, operator)
+    }
+
+    // The operands of a chain behind the first one and a sign.
+    #[cycle(read)]
+    fn chained_behind(
+        self,
+        first: Term,
+        tokens: Rest,
+        operator: Infix,
+    ) -> Result<(Term, Rest), Stop>
+        requires { self.level ≤ MOST_LEVELS }
+        ensures { MatchResult result
+            (λ read. ReadsMore operator self.profile self.level (tree_of first) (tree_of read.0)
+            (left tokens.entry) (left read.1))
+            (λ stop. HaltsMore operator self.profile self.level (tree_of first)
+            (left tokens.entry) stop) }
+    {
+        let mut behind = tokens;
         let mut terms = Vec::new(self.alloc);
         terms.push(first)?;
         'operands: loop {
@@ -315,7 +348,17 @@ impl Reader {
         let Some((operator, behind)) = first_operator(self.alloc, self.profile, tokens)? else {
             return self.atoms(tokens);
         };
-        let (operator, (operand, rest)) = both(operator, self.atom(behind))?;
+        self.operated(operator, behind)
+    }
+
+    // An operator with its operand.
+    #[cycle(read)]
+    fn operated(self, operator: Operator, tokens: Rest) -> Result<(Term, Rest), Stop>
+        requires { self.level ≤ MOST_LEVELS }
+        ensures { Gives (λ term. ReadsOperated self.profile self.level operator (tree_of term))
+            (in_atom self.profile self.level) tokens.entry result }
+    {
+        let (operator, (operand, rest)) = both(operator, self.atom(tokens))?;
         let term = operation(self.alloc, operator, operand)?;
         Ok((term, rest))
     }

@@ -19,7 +19,8 @@ use Rattle.revs_grammar.specs.Sentences.{token, kept_token, opening_token, form}
 use Rattle.revs_grammar.specs.Faults.{IsSyntax, IsNesting}
 use Rattle.revs_grammar.specs.inside.Machine.{Stack}
 use Rattle.revs_terms.specs.Trees.{Tree, ItemTree, trees, item_trees, reg, block, function, append}
-use Rattle.revs_terms.specs.Trees.{rotate, clean, assert, ands, xors, loop, bind, run, tree_of, item_tree_of}
+use Rattle.revs_terms.specs.Trees.{rotate, clean, assert, assign, ands, xors, loop, bind, run}
+use Rattle.revs_terms.specs.Trees.{tree_of, item_tree_of}
 use Rattle.revs_terms.specs.declared.term.Name.{Name}
 use Rattle.revs_terms.specs.declared.term.Step.{Step}
 use Rattle.revs_terms.specs.declared.term.Part.{Part}
@@ -37,7 +38,8 @@ use Rattle.revs_parser.specs.declared.front.Operator.{Operator}
 use Rattle.revs_parser.specs.declared.front.Operator.TheVariants as operators
 use Rattle.revs_parser.specs.declared.front.Opener.{Opener}
 use Rattle.revs_parser.specs.declared.front.Opener.TheVariants as openers
-use Rattle.revs_parser.specs.inside.Reading.{Passes, Reads, Skips, ReadsForm, GivesForm, ReadsAnywhere, Heads, NotFirst}
+use Rattle.revs_parser.specs.inside.Reading.{Passes, Reads, Skips, ReadsForm, GivesForm, Halts}
+use Rattle.revs_parser.specs.inside.Reading.{ReadsAnywhere, Heads, NotFirst}
 
 -- a sign or a word as a token, and as a mark of the grammar
 abbrev pub fixed_tok : Fixed → Tok
@@ -133,6 +135,17 @@ pub record ReadsOperator (p : Profile) (operator : Operator) (ts rest : List Tok
   pub passes : (level : ℕ) → Passes (form (in_profile p g.application) level ∷ [])
       (form (in_profile p g.atom) level ∷ []) (λ operand. (operated operator operand.0, tt)) ts rest
 
+-- what is expected of an atom
+abbrev pub in_atom : Profile → ℕ → Stack
+in_atom p level = form (in_profile p g.atom) level ∷ []
+
+-- The operand of an operator was read.
+pub record ReadsOperated (p : Profile) (level : ℕ) (operator : Operator) (term : Tree)
+    (ts rest : List Token) : Type 0 where
+  pub operand : Tree
+  pub is : term ≡ operated operator operand
+  pub reads : ReadsForm (in_profile p g.atom) level operand ts rest
+
 -- No operator with one operand stands first.
 pub record NoOperator (ts : List Token) : Type 0 where
   pub no_clean : NotFirst (toks.Word words.Clean) ts
@@ -194,6 +207,28 @@ pub record ReadsChain (operator : Infix) (p : Profile) (level : ℕ) (term : Tre
 pub record ReadsOperand (operator : Infix) (p : Profile) (level : ℕ) (term : Tree)
     (ts rest : List Token) : Type 0 where
   pub reads : IsOperand operator p level term ts rest
+
+-- The operands of a chain behind the first one and a sign were read: from wherever the first was
+-- read, the chain is read from there.
+pub record ReadsMore (operator : Infix) (p : Profile) (level : ℕ) (first term : Tree)
+    (ts rest : List Token) : Type 0 where
+  pub chain : (all between : List Token) (at : Place)
+      → ReadsOperand operator p level first all between → Heads (toks.Sign (infix_sign operator)) at between ts
+      → ReadsChain operator p level term all rest
+
+-- The machine that expects the chain halts so behind them, from wherever the first was read.
+pub record HaltsMore (operator : Infix) (p : Profile) (level : ℕ) (first : Tree)
+    (ts : List Token) (stop : Stop) : Type 0 where
+  pub chain : (all between : List Token) (at : Place)
+      → ReadsOperand operator p level first all between → Heads (toks.Sign (infix_sign operator)) at between ts
+      → Halts (in_chain operator p level) all stop
+
+-- What is assigned to a term was read, behind the sign.
+pub record ReadsAssigned (p : Profile) (level : ℕ) (target term : Tree)
+    (ts rest : List Token) : Type 0 where
+  pub value : Tree
+  pub is : term ≡ assign target value
+  pub reads : ReadsForm (in_profile p g.sum) level value ts rest
 
 -- the token that opens a level
 abbrev pub opening : Opener → Tok

@@ -1,5 +1,5 @@
 use Rattle.std.proofs.Common.{refl}
-use Rattle.revs_parser.proofs.TokenLemmas.{heads, begins_no_number, nothing_no_number}
+use Rattle.revs_parser.proofs.TokenLemmas.{heads, nothing_no_number}
 use Rattle.revs_parser.proofs.leaf.first_number.Goals as goal
 
 pub returns-in_err-first-clause-none : goal.returns-in_err-first-clause-none

@@ -4,7 +4,7 @@ use Rattle.revs_terms.proofs.ShapeLemmas.{tree_of-Reg, tree_of-Block, tree_of-Ap
 use Rattle.revs_terms.proofs.ShapeLemmas.{item_tree_of-Let, item_tree_of-Do, item_tree_of-For}
 use Rattle.std.proofs.lemmas.Result.{MatchResult-weaker}
 use Rattle.revs_lexer.specs.Rest.{left}
-use Rattle.revs_parser.proofs.PassingLemmas.{only, smaller_behind, halts_on}
+use Rattle.revs_parser.proofs.PassingLemmas.{only, smaller_behind, halts_on, lacks}
 use Rattle.revs_parser.proofs.ReadingLemmas as r
 use Rattle.revs_parser.proofs.ItemLemmas as i
 use Rattle.revs_parser.proofs.expression.Reader.+read.Goals as goal
@@ -24,18 +24,19 @@ pub expression-returns-in_default-after : goal.expression-returns-in_default-aft
 expression-returns-in_default-after t c = r.expression_sum c.args.self.level c.in_default.ensures.none c.in_ok-left.ensures.reads
     c.in_default-after.ensures.none
 
-pub expression-returns-in_err-left-2 : goal.expression-returns-in_err-left-2
-expression-returns-in_err-left-2 t c =
-    halts_on _ _ _ c.from_residual-in_err-left-2.ensures.1
-    (r.expression_in_assigned c.args.self.level c.in_default.ensures.none c.in_ok-left.ensures.reads c.in-Some-after.ensures.found
-    (rw c.in_err-left-2.ensures at c.chained-2.ensures))
-
 pub expression-returns : goal.expression-returns
-expression-returns t c =
-    let both = c.in_ok-left-2.ensures in
-    let right = rw both.1 at c.chained-2.ensures in
-    r.expression_assign c.args.self.level c.in_default.ensures.none c.in_ok-left.ensures.reads c.in-Some-after.ensures.found
-    right.reads (rw both.0 at c.in_ok-term.ensures)
+expression-returns t c = MatchResult-weaker c.assigned.result c.assigned.ensures
+    (λ x read. r.expression_assign c.args.self.level c.in_default.ensures.none c.in_ok-left.ensures.reads c.in-Some-after.ensures.found read.reads read.is)
+    (λ x. r.expression_in_assigned c.args.self.level c.in_default.ensures.none c.in_ok-left.ensures.reads c.in-Some-after.ensures.found)
+
+pub assigned-returns-in_err-target : goal.assigned-returns-in_err-target
+assigned-returns-in_err-target t c = halts_on _ _ _ c.from_residual.ensures.1 (rw c.in_err-target.ensures at c.chained.ensures)
+
+pub assigned-returns : goal.assigned-returns
+assigned-returns t c =
+    let both = c.in_ok-target.ensures in
+    let value = rw both.1 at c.chained.ensures in
+    record { value = tree_of c.in_ok-target.value; is = rw both.0 at c.in_ok-term.ensures; reads = value.reads }
 
 -- ---- functions
 
@@ -52,30 +53,46 @@ chained-returns-in_err-first t c =
 pub chained-returns-in_default : goal.chained-returns-in_default
 chained-returns-in_default t c = r.chain_alone c.args.operator c.args.self.level c.in_ok-first.ensures (rw c.sign.ensures at c.in_default.ensures.none)
 
-pub chained-operands-init : goal.chained-operands-init
-chained-operands-init t c = record {
-  read = r.chain_begun c.args.operator c.args.self.level c.in_ok-first.ensures (rw c.sign.ensures at c.in-Some.ensures.found)
-      (only c.new-terms.result.items c.in_ok-first.first c.in_ok-push.ensures.items c.new-terms.ensures.items);
+pub chained-returns : goal.chained-returns
+chained-returns t c = MatchResult-weaker c.chained_behind.result c.chained_behind.ensures
+    (λ x more. more.chain _ _ _ c.in_ok-first.ensures (rw c.sign.ensures at c.in-Some.ensures.found))
+    (λ x more. more.chain _ _ _ c.in_ok-first.ensures (rw c.sign.ensures at c.in-Some.ensures.found))
+
+pub chained_behind-operands-init : goal.chained_behind-operands-init
+chained_behind-operands-init t c = record {
+  read = λ all between at first heads. r.chain_begun c.args.operator c.args.self.level first heads
+      (only c.new-terms.result.items c.args.first c.in_ok-push.ensures.items c.new-terms.ensures.items);
 }
 
-pub chained-returns-in_default-after : goal.chained-returns-in_default-after
-chained-returns-in_default-after t c =
-    let put = c.in_ok-rest.ensures in
-    r.chain_done c.args.operator c.args.self.level c.operands.terms.items put.next c.operands.invariant.read (rw put.was_read at c.operand-in-operands.ensures)
-    (rw c.sign-in-operands.ensures at c.in_default-after.ensures.none) put.all c.term.ensures
+pub chained_behind-returns-in_err-rest : goal.chained_behind-returns-in_err-rest
+chained_behind-returns-in_err-rest t c =
+    halts_on _ _ _ c.from_residual-in_err-rest.ensures.1 (record {
+      chain = λ all between at first heads. lacks c.in_err-rest.ensures
+          (λ e. r.chain_no_next c.args.operator c.args.self.level (c.operands.invariant.read all between at first heads) (rw e at c.operand.ensures));
+    })
 
-pub chained-operands-preserved : goal.chained-operands-preserved
-chained-operands-preserved t c =
+pub chained_behind-returns-in_default : goal.chained_behind-returns-in_default
+chained_behind-returns-in_default t c =
     let put = c.in_ok-rest.ensures in
     record {
-      read = r.chain_more c.args.operator c.args.self.level c.operands.terms.items put.next c.operands.invariant.read
-          (rw put.was_read at c.operand-in-operands.ensures) (rw c.sign-in-operands.ensures at c.in-Some-after.ensures.found) put.all;
+      chain = λ all between at first heads. r.chain_done c.args.operator c.args.self.level c.operands.terms.items put.next
+          (c.operands.invariant.read all between at first heads) (rw put.was_read at c.operand.ensures)
+          (rw c.sign.ensures at c.in_default.ensures.none) put.all c.term.ensures;
     }
 
-pub chained-operands-smaller : goal.chained-operands-smaller
-chained-operands-smaller t c =
-    let read = rw c.in_ok-rest.ensures.was_read at c.operand-in-operands.ensures in
-    r.chain_shorter c.args.operator c.args.self.level read c.in-Some-after.ensures.found
+pub chained_behind-operands-preserved : goal.chained_behind-operands-preserved
+chained_behind-operands-preserved t c =
+    let put = c.in_ok-rest.ensures in
+    record {
+      read = λ all between at first heads. r.chain_more c.args.operator c.args.self.level c.operands.terms.items put.next
+          (c.operands.invariant.read all between at first heads) (rw put.was_read at c.operand.ensures)
+          (rw c.sign.ensures at c.in-Some.ensures.found) put.all;
+    }
+
+pub chained_behind-operands-smaller : goal.chained_behind-operands-smaller
+chained_behind-operands-smaller t c =
+    let read = rw c.in_ok-rest.ensures.was_read at c.operand.ensures in
+    r.chain_shorter c.args.operator c.args.self.level read c.in-Some.ensures.found
 
 pub operand-returns-in-Xor : goal.operand-returns-in-Xor
 operand-returns-in-Xor t c =
@@ -100,17 +117,20 @@ application-returns-in_default-2 t c =
     (λ x. r.application_plain c.args.self.level (r.plain c.in_default.ensures.none none))
     (λ x. r.plain_halts c.args.self.level (r.plain c.in_default.ensures.none none))
 
-pub application-returns-in_err-operator-2 : goal.application-returns-in_err-operator-2
-application-returns-in_err-operator-2 t c =
-    let found = rw c.in-Some-2.is at c.in_ok-operator.ensures.found in
-    halts_on _ _ _ c.from_residual-in_err-operator-2.ensures.1
-    (r.operand_halts c.args.self.level found (rw c.in_err-operator-2.ensures at c.atom.ensures))
-
 pub application-returns : goal.application-returns
 application-returns t c =
     let found = rw c.in-Some-2.is at c.in_ok-operator.ensures.found in
-    let both = c.in_ok-operator-2.ensures in
-    r.application_operator c.args.self.level found (rw both.1 at c.atom.ensures) (rw both.0 at c.in_ok-term.ensures)
+    MatchResult-weaker c.operated.result c.operated.ensures
+    (λ x read. r.application_operator c.args.self.level found read.reads read.is)
+    (λ x. r.operand_halts c.args.self.level found)
+
+pub operated-returns-in_err-operator : goal.operated-returns-in_err-operator
+operated-returns-in_err-operator t c = halts_on _ _ _ c.from_residual.ensures.1 (rw c.in_err-operator.ensures at c.atom.ensures)
+
+pub operated-returns : goal.operated-returns
+operated-returns t c =
+    let both = c.in_ok-operator.ensures in
+    record { operand = tree_of c.in_ok-operator.operand; is = rw both.0 at c.in_ok-term.ensures; reads = rw both.1 at c.atom.ensures }
 
 pub append-returns : goal.append-returns
 append-returns t c =
