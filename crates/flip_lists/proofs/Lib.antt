@@ -1,3 +1,4 @@
 pub mod FlipLemmas
 pub mod IndexLemmas
 pub mod SettlingLemmas
+pub mod SpanLemmas

@@ -1,6 +1,7 @@
 // Where a walk need not look again. No contract rests on it: it saves looks at blocks.
 ghost use Rattle.std.specs.Prelude.{◌≡◌, ◌<◌, ◌++◌, ◌∷◌, [], None, option_to_list, IfOk, OnOk};
-ghost use Rattle.flip_lists.specs.Spans.{closed, last_end, opened};
+ghost use Rattle.flip_lists.specs.Spans.{DropsBefore, IsClosed, IsOpened};
+ghost use Rattle.flip_lists.specs.Spans.{closed, last_end, length_from, nearest, opened};
 
 use revc_base::Memory;
 use std::alloc::Global;
@@ -61,7 +62,9 @@ impl Spans {
     }
 
     /// Those that begin before a place go.
-    pub fn drop_before(&mut self, place: usize) {
+    pub fn drop_before(&mut self, place: usize)
+        ensures { DropsBefore place self.old.spans.items self.new.spans.items }
+    {
         'earlier: while !self.spans.is_empty() {
             if place <= self.spans[self.spans.len() - 1].start {
                 return;
@@ -71,7 +74,10 @@ impl Spans {
     }
 
     /// How long the one is that begins at a place, or 0. Those that begin before it go.
-    pub fn length_at(&mut self, place: usize) -> usize {
+    pub fn length_at(&mut self, place: usize) -> usize
+        ensures dropped { DropsBefore place self.old.spans.items self.new.spans.items }
+        ensures length { result ≡ length_from place (nearest self.new.spans.items) }
+    {
         self.drop_before(place);
         match self.spans.last() {
             Some(span) if span.start == place => span.end.saturating_sub(span.start),
@@ -80,7 +86,9 @@ impl Spans {
     }
 
     /// The flip at a place went out: those behind it come nearer to the start.
-    pub fn close(&mut self, place: usize) {
+    pub fn close(&mut self, place: usize)
+        ensures { IsClosed place self.old.spans.items self.new.spans.items }
+    {
         for step in (0..self.spans.len()).rev() {
             let span = self.spans[step];
             if span.end < place {
@@ -91,7 +99,9 @@ impl Spans {
     }
 
     /// The same: those before it come nearer to the end.
-    pub fn open(&mut self, place: usize) {
+    pub fn open(&mut self, place: usize)
+        ensures { IsOpened place self.old.spans.items self.new.spans.items }
+    {
         for step in (0..self.spans.len()).rev() {
             let span = self.spans[step];
             if place < span.start {
