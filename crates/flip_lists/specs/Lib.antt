@@ -1,4 +1,5 @@
 pub mod Flips
+pub mod Kinds
 pub mod Marks
 pub mod Settling
 pub mod Spans

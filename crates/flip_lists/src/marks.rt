@@ -1,7 +1,9 @@
 // Where a pair can come of a change. No contract rests on it: it saves looks for flips.
-ghost use Rattle.std.specs.Prelude.{◌≡◌, ◌<◌, ◌↔◌, IfOk, IsTrue, replicate, slice_index};
+ghost use Rattle.std.specs.Prelude.{◌≡◌, ◌<◌, ◌↔◌, ◌∷◌, [], IfOk, IsTrue, replicate};
+ghost use Rattle.std.specs.Prelude.{slice_index};
 ghost use Rattle.flip_lists.specs.declared.marks.TheConstants.{MOST_KINDS};
 ghost use Rattle.flip_lists.specs.Flips.{lines_in};
+ghost use Rattle.flip_lists.specs.Kinds.{AreAdded, AreRemoved, count_of, kind_of};
 ghost use Rattle.flip_lists.specs.Marks.{has, is_any_marked, is_freed, is_marked};
 ghost use Rattle.flip_lists.specs.Marks.{is_on_new, is_stopped, may_come, touches_open};
 
@@ -267,19 +269,25 @@ impl Kinds {
     }
 
     /// Whether there may be another flip like this one of them.
-    pub fn may_have_another(&self, flip: Flip) -> bool {
+    pub fn may_have_another(&self, flip: Flip) -> bool
+        ensures { IsTrue result ↔ (1 < count_of self.now.counts.items flip) }
+    {
         let kind = kind_of(flip);
         kind < self.counts.len() && self.counts[kind] > 1
     }
 
     /// Counts the flips.
-    pub fn add_all(&mut self, flips: &[Flip]) {
+    pub fn add_all(&mut self, flips: &[Flip])
+        ensures { AreAdded flips.now self.old.counts.items self.new.counts.items }
+    {
         for flip in flips {
             self.add(*flip);
         }
     }
 
-    fn add(&mut self, flip: Flip) {
+    fn add(&mut self, flip: Flip)
+        ensures { AreAdded (flip ∷ []) self.old.counts.items self.new.counts.items }
+    {
         let kind = kind_of(flip);
         if kind < self.counts.len() {
             self.counts[kind] = self.counts[kind].saturating_add(1);
@@ -287,14 +295,18 @@ impl Kinds {
     }
 
     /// The flips went out.
-    pub fn remove_all(&mut self, flips: &[Flip]) {
+    pub fn remove_all(&mut self, flips: &[Flip])
+        ensures { AreRemoved flips.now self.old.counts.items self.new.counts.items }
+    {
         for flip in flips {
             self.remove(*flip);
         }
     }
 
     /// The flip went out.
-    pub fn remove(&mut self, flip: Flip) {
+    pub fn remove(&mut self, flip: Flip)
+        ensures { AreRemoved (flip ∷ []) self.old.counts.items self.new.counts.items }
+    {
         let kind = kind_of(flip);
         if kind < self.counts.len() {
             self.counts[kind] = self.counts[kind].saturating_sub(1);
@@ -304,7 +316,8 @@ impl Kinds {
 
 // The same of flips that are alike.
 pub fn kind_of(flip: Flip) -> usize
-    ensures { result < MOST_KINDS }
+    ensures below { result < MOST_KINDS }
+    ensures kind { result ≡ kind_of flip }
 {
     let (sum, product) = match flip.controls {
         Controls::Zero => (0, 0),

@@ -1,0 +1,6 @@
+use Rattle.std.proofs.Common.{take}
+use Rattle.flip_lists.specs.Kinds.{AreRemoved}
+use Rattle.flip_lists.proofs.marks.Kinds.remove_all.Given as goal
+
+abbrev pub invariant-loop-flip : goal.invariant-loop-flip
+invariant-loop-flip l = AreRemoved (take l.flip-index l.flips) l.initial.self.counts.items l.self.counts.items
