@@ -67,7 +67,8 @@ pub changed_up_to : (P : Span → Type 0) (change : Span → Span) (old : List S
 changed_up_to P change old k j spans span so next is stays =
     let short = length-take-le k old so.within in
     let last : span ≡ get_or (take k old) (k - 1) span =
-    unchanged P change old k j spans span so next is ∙ sym (get_or-take k old j span (omega (arith, next))) ∙ ap (λ n. get_or (take k old) n span) (omega (arith, next)) in
+    unchanged P change old k j spans span so next is ∙ sym (get_or-take k old j span (omega (arith, next)))
+    ∙ ap (λ n. get_or (take k old) n span) (omega (arith, next)) in
     record {
       front = take k old;
       end = drop k old;

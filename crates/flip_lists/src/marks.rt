@@ -1,11 +1,14 @@
 // Where a pair can come of a change. No contract rests on it: it saves looks for flips.
-ghost use Rattle.std.specs.Prelude.{◌≡◌, ◌<◌, ◌↔◌, ◌∷◌, [], IfOk, IsTrue, replicate};
+ghost use Rattle.std.specs.Prelude.{◌≡◌, ◌<◌, ◌↔◌, ◌∷◌, [], IfOk, IsTrue, OnOk, replicate};
 ghost use Rattle.std.specs.Prelude.{slice_index};
-ghost use Rattle.flip_lists.specs.declared.marks.TheConstants.{MOST_KINDS};
-ghost use Rattle.flip_lists.specs.Flips.{lines_in};
+ghost use Rattle.flip_lists.specs.declared.marks.TheConstants.{MOST_KINDS, OPEN};
+ghost use Rattle.flip_lists.specs.Flips.{controls_of, lines_in};
 ghost use Rattle.flip_lists.specs.Kinds.{AreAdded, AreRemoved, count_of, kind_of};
-ghost use Rattle.flip_lists.specs.Marks.{has, is_any_marked, is_freed, is_marked};
-ghost use Rattle.flip_lists.specs.Marks.{is_on_new, is_stopped, may_come, touches_open};
+ghost use Rattle.flip_lists.specs.Marks.{Becomes, FreesBehind, changed, cleared, has};
+ghost use Rattle.flip_lists.specs.Marks.{is_any_marked, is_freed, is_marked, is_on_new, is_stopped};
+ghost use Rattle.flip_lists.specs.Marks.{lets_come, listed, marked, may_come, noted, notes_of};
+ghost use Rattle.flip_lists.specs.Marks.{touches_open, with_freed, with_new, with_openness};
+ghost use Rattle.flip_lists.specs.Marks.{with_passed};
 
 use crate::flip::{Controls, Flip};
 use revc_base::Memory;
@@ -58,12 +61,16 @@ impl Marks {
     }
 
     /// The lines of the change.
-    pub fn lines(&self) -> &[u32] {
+    pub fn lines(&self) -> &[u32]
+        ensures { result.now ≡ self.now.lines.items }
+    {
         &self.lines
     }
 
     /// Whether a flip of the line can still come to the change.
-    pub fn is_open(&self, line: u32) -> bool {
+    pub fn is_open(&self, line: u32) -> bool
+        ensures { result ≡ is_marked self.now.words.items OPEN line }
+    {
         self.has(line, OPEN)
     }
 
@@ -116,7 +123,10 @@ impl Marks {
     }
 
     /// A block gives way to new flips.
-    pub fn change(&mut self, block: &[Flip], new: &[Flip]) -> Result<(), Memory> {
+    pub fn change(&mut self, block: &[Flip], new: &[Flip]) -> Result<(), Memory>
+        ensures { OnOk result (Becomes self.old self.new
+            (changed block.now new.now (notes_of self.old))) }
+    {
         self.clear();
         for flip in block {
             self.free(*flip)?;
@@ -128,7 +138,10 @@ impl Marks {
     }
 
     // There is no line of a change.
-    fn clear(&mut self) {
+    fn clear(&mut self)
+        ensures notes { Becomes self.old self.new (cleared (notes_of self.old)) }
+        ensures closed { self.new.open_lines ≡ 0 }
+    {
         for at in 0..self.lines.len() {
             let place = self.lines[at] as usize;
             if place < self.words.len() {
@@ -140,20 +153,27 @@ impl Marks {
     }
 
     /// The flip goes: those that it stopped are freed.
-    pub fn free(&mut self, flip: Flip) -> Result<(), Memory> {
+    pub fn free(&mut self, flip: Flip) -> Result<(), Memory>
+        ensures { OnOk result (Becomes self.old self.new (with_freed (notes_of self.old) flip)) }
+    {
         self.list(flip)?;
         self.add_lines(flip, FREED_CONTROL, FREED_TARGET, true);
         Ok(())
     }
 
     /// The flips that are passed over begin behind so many.
-    pub fn begin(&mut self, behind: usize) {
+    pub fn begin(&mut self, behind: usize)
+        ensures notes { notes_of self.new ≡ notes_of self.old }
+        ensures passed { self.new.passed ≡ behind }
+    {
         self.passed = behind;
     }
 
     /// The flip goes, with the one at a place, behind flips that were passed over and are walked
     /// over now.
-    pub fn free_behind(&mut self, flip: Flip, place: usize, walked: &[Flip]) -> Result<(), Memory> {
+    pub fn free_behind(&mut self, flip: Flip, place: usize, walked: &[Flip]) -> Result<(), Memory>
+        ensures { OnOk result (FreesBehind flip place walked.now self.old self.new) }
+    {
         if place < self.passed {
             self.passed -= 1;
         }
@@ -166,14 +186,18 @@ impl Marks {
     }
 
     // The flip is new.
-    fn renew(&mut self, flip: Flip) -> Result<(), Memory> {
+    fn renew(&mut self, flip: Flip) -> Result<(), Memory>
+        ensures { OnOk result (Becomes self.old self.new (with_new (notes_of self.old) flip)) }
+    {
         self.list(flip)?;
         self.add_lines(flip, NEW, NEW, true);
         Ok(())
     }
 
     /// The flip is passed over: lines of the change note it.
-    pub fn pass(&mut self, flip: Flip) {
+    pub fn pass(&mut self, flip: Flip)
+        ensures { Becomes self.old self.new (with_passed (notes_of self.old) flip) }
+    {
         self.add_lines(flip, TARGET, CONTROL, false);
     }
 
@@ -184,7 +208,10 @@ impl Marks {
     }
 
     // The lines of the flip are lines of the change.
-    fn list(&mut self, flip: Flip) -> Result<(), Memory> {
+    fn list(&mut self, flip: Flip) -> Result<(), Memory>
+        ensures { OnOk result (Becomes self.old self.new
+            (listed (flip.target ∷ controls_of flip) (notes_of self.old))) }
+    {
         self.list_line(flip.target)?;
         match flip.controls {
             Controls::Zero => Ok(()),
@@ -196,7 +223,10 @@ impl Marks {
         }
     }
 
-    fn list_line(&mut self, line: u32) -> Result<(), Memory> {
+    fn list_line(&mut self, line: u32) -> Result<(), Memory>
+        ensures { OnOk result (Becomes self.old self.new
+            (listed (line ∷ []) (notes_of self.old))) }
+    {
         if self.word_of(line) == 0 {
             self.lines.push(line)?;
         }
@@ -204,7 +234,10 @@ impl Marks {
     }
 
     // Notes a flip on its lines, or only on those that are lines of the change already.
-    fn add_lines(&mut self, flip: Flip, of_target: u8, of_controls: u8, all: bool) {
+    fn add_lines(&mut self, flip: Flip, of_target: u8, of_controls: u8, all: bool)
+        ensures { Becomes self.old self.new
+            (noted of_target of_controls all flip (notes_of self.old)) }
+    {
         self.add(flip.target, of_target, all);
         match flip.controls {
             Controls::Zero => {}
@@ -216,7 +249,13 @@ impl Marks {
         }
     }
 
-    fn add(&mut self, line: u32, bit: u8, all: bool) {
+    fn add(&mut self, line: u32, bit: u8, all: bool)
+        ensures { Becomes self.old self.new
+            (record {
+              words = marked bit all self.old.words.items line;
+              lines = self.old.lines.items;
+            }) }
+    {
         let old = self.word_of(line);
         let place = line as usize;
         if (old == 0 && !all) || has(old, bit) || self.words.len() <= place {
@@ -236,13 +275,17 @@ fn has(word: u8, bit: u8) -> bool
 }
 
 // Whether a flip of the line behind those that were passed over can come to the change.
-fn is_open(word: u8) -> bool {
+fn is_open(word: u8) -> bool
+    ensures { result ≡ lets_come word }
+{
     (has(word, FREED_TARGET) && !has(word, CONTROL))
         || (has(word, FREED_CONTROL) && !has(word, TARGET))
         || (has(word, NEW) && !(has(word, TARGET) && has(word, CONTROL)))
 }
 
-fn with_openness(word: u8) -> u8 {
+fn with_openness(word: u8) -> u8
+    ensures { result ≡ with_openness word }
+{
     if is_open(word) {
         word | OPEN
     } else {
