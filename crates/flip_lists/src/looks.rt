@@ -1,4 +1,10 @@
 // Where a look for a flip passes others at once. No contract rests on it: it saves time alone.
+ghost use Rattle.std.specs.Prelude.{◌≡◌, ◌-◌, ◌≤◌, ◌∷◌, [], if◌then◌else◌, min, nat_lt};
+ghost use Rattle.std.specs.Prelude.{length, drop, slice_index, slice_set, IfOk};
+ghost use Rattle.flip_lists.specs.Flips.{lines_in};
+ghost use Rattle.flip_lists.specs.Looks.{AreSet, IsUnnoted, Notes, Stays, are_apart, kind_among};
+ghost use Rattle.flip_lists.specs.Looks.{stands_between, targets_stand_between};
+
 use crate::flip::{Controls, Flip};
 use crate::index::empty_lists;
 use crate::marks::{MOST_KINDS, kind_of};
@@ -21,7 +27,9 @@ pub struct Latest {
 
 impl Latest {
     /// None is noted yet, for so many flips on so many lines.
-    pub fn new(alloc: Global, lines: u32, flips: usize) -> Result<Latest, Memory> {
+    pub fn new(alloc: Global, lines: u32, flips: usize) -> Result<Latest, Memory>
+        ensures { IfOk result (IsUnnoted lines flips) }
+    {
         let kinds = flips.saturating_mul(KINDS_FOR_EACH_FLIP).min(MOST_KINDS);
         let of_kind = vec![in alloc; 0; kinds]?;
         let of_target = vec![in alloc; 0; lines as usize]?;
@@ -35,7 +43,10 @@ impl Latest {
     }
 
     /// Notes those that were walked over and are not noted.
-    pub fn note_all(&mut self, walked: &[Flip]) {
+    pub fn note_all(&mut self, walked: &[Flip])
+        ensures notes { Notes self.old.noted (drop self.old.noted walked.now) self.old self.new }
+        ensures noted { self.new.noted ≡ length walked.now }
+    {
         for place in self.noted..walked.len() {
             self.note(walked[place], place + 1);
         }
@@ -43,34 +54,41 @@ impl Latest {
     }
 
     /// The walk went back to where so many are walked over.
-    pub fn go_back(&mut self, to: usize) {
+    pub fn go_back(&mut self, to: usize)
+        ensures ends { Stays self.old self.new }
+        ensures noted { self.new.noted ≡ min self.old.noted to }
+    {
         self.noted = self.noted.min(to);
     }
 
     /// The flip at a place went out.
-    pub fn close(&mut self, place: usize) {
+    pub fn close(&mut self, place: usize)
+        ensures ends { Stays self.old self.new }
+        ensures noted { self.new.noted ≡ (if nat_lt place self.old.noted then self.old.noted - 1
+            else self.old.noted) }
+    {
         if place < self.noted {
             self.noted -= 1;
         }
     }
 
-    fn note(&mut self, flip: Flip, end: usize) {
+    // Notes a flip, the last of so many that were walked over.
+    fn note(&mut self, flip: Flip, end: usize)
+        requires { 1 ≤ end }
+        ensures notes { Notes (end - 1) (flip ∷ []) self.old self.new }
+        ensures noted { self.new.noted ≡ self.old.noted }
+    {
         let kind = self.kind_of(flip);
         set(&mut self.of_kind, kind, end);
         set(&mut self.of_target, flip.target as usize, end);
-        match flip.controls {
-            Controls::Zero => {}
-            Controls::One(one) => set(&mut self.of_control, one as usize, end),
-            Controls::Two(first, second) => {
-                set(&mut self.of_control, first as usize, end);
-                set(&mut self.of_control, second as usize, end);
-            }
-        }
+        set_each(&mut self.of_control, flip.controls, end);
     }
 
     /// Whether it is seen at once that a flip behind those that were walked over cancels with none
     /// of them: none is like it, or behind all that are stands one that is not free of it.
-    pub fn keep_apart(&self, flip: Flip, walked: &[Flip]) -> bool {
+    pub fn keep_apart(&self, flip: Flip, walked: &[Flip]) -> bool
+        ensures { result ≡ are_apart self.now flip walked.now }
+    {
         let of_kind = end_at(&self.of_kind, self.kind_of(flip));
         let like = of_kind.min(end_at(&self.of_target, flip.target as usize));
         let as_control = end_at(&self.of_control, flip.target as usize);
@@ -80,11 +98,15 @@ impl Latest {
     }
 
     // The same of flips that are alike.
-    fn kind_of(&self, flip: Flip) -> usize {
+    fn kind_of(&self, flip: Flip) -> usize
+        ensures { result ≡ kind_among (length self.now.of_kind.items) flip }
+    {
         kind_of(flip) % self.of_kind.len().max(1)
     }
 
-    fn targets_stand_between(&self, like: usize, flip: Flip, walked: &[Flip]) -> bool {
+    fn targets_stand_between(&self, like: usize, flip: Flip, walked: &[Flip]) -> bool
+        ensures { result ≡ targets_stand_between self.now like flip walked.now }
+    {
         match flip.controls {
             Controls::Zero => false,
             Controls::One(one) => self.target_stands_between(like, one, flip, walked),
@@ -95,23 +117,46 @@ impl Latest {
         }
     }
 
-    fn target_stands_between(&self, like: usize, line: u32, flip: Flip, walked: &[Flip]) -> bool {
+    fn target_stands_between(&self, like: usize, line: u32, flip: Flip, walked: &[Flip]) -> bool
+        ensures { result ≡ stands_between like (slice_index self.now.of_target.items line) flip
+            walked.now }
+    {
         stands_between(like, end_at(&self.of_target, line as usize), flip, walked)
     }
 }
 
-fn set(ends: &mut [usize], at: usize, end: usize) {
+fn set(ends: &mut [usize], at: usize, end: usize)
+    ensures { ends.new ≡ slice_set ends.old at end }
+{
     if at < ends.len() {
         ends[at] = end;
     }
 }
 
-fn end_at(ends: &[usize], at: usize) -> usize {
+// Sets the ends of lines.
+fn set_each(ends: &mut [usize], lines: Controls, end: usize)
+    ensures { AreSet (lines_in lines) end ends.old ends.new }
+{
+    match lines {
+        Controls::Zero => {}
+        Controls::One(one) => set(ends, one as usize, end),
+        Controls::Two(first, second) => {
+            set(ends, first as usize, end);
+            set(ends, second as usize, end);
+        }
+    }
+}
+
+fn end_at(ends: &[usize], at: usize) -> usize
+    ensures { result ≡ slice_index ends.now at }
+{
     ends.get(at).copied().unwrap_or(0)
 }
 
 // Whether the flip before an end is behind all that are like this one, and not free of it.
-fn stands_between(like: usize, end: usize, flip: Flip, walked: &[Flip]) -> bool {
+fn stands_between(like: usize, end: usize, flip: Flip, walked: &[Flip]) -> bool
+    ensures { result ≡ stands_between like end flip walked.now }
+{
     like < end && end <= walked.len() && !flip.is_free_of(walked[end - 1])
 }
 
