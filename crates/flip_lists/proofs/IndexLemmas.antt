@@ -314,7 +314,7 @@ bound-either slots these those one other first second =
 
 -- ---- the places of a line
 
-length-contents : (places : List (Vec ℕ)) → length (contents places) ≡ length places
+pub length-contents : (places : List (Vec ℕ)) → length (contents places) ≡ length places
 length-contents places = length-map places (λ (v : Vec ℕ). v.items)
 
 pub places_at-set : (places : List (Vec ℕ)) (line : ℕ) (v : Vec ℕ) → line < length places → places_at (set places line v) line ≡ v.items
@@ -342,10 +342,11 @@ pub same_length : (old new : List (Vec ℕ)) (line : ℕ) (xs : List ℕ) → co
 same_length old new line xs e =
     sym (length-contents new) ∙ ap length e ∙ length-set (contents old) line xs ∙ length-contents old
 
-changed_at : (old new : List (Vec ℕ)) (line : ℕ) (xs : List ℕ) → contents new ≡ set (contents old) line xs → line < length old → places_at new line ≡ xs
+pub changed_at : (old new : List (Vec ℕ)) (line : ℕ) (xs : List ℕ) → contents new ≡ set (contents old) line xs → line < length old → places_at new line ≡ xs
 changed_at old new line xs e lt = ap (λ l. get_or l line []) e ∙ get_or-set_same (contents old) line xs [] (omega (arith, length-contents old))
 
-kept_at : (old new : List (Vec ℕ)) (line key : ℕ) (xs : List ℕ) → contents new ≡ set (contents old) line xs → key ≢ line → places_at new key ≡ places_at old key
+pub kept_at : (old new : List (Vec ℕ)) (line key : ℕ) (xs : List ℕ) → contents new ≡ set (contents old) line xs → key ≢ line
+    → places_at new key ≡ places_at old key
 kept_at old new line key xs e ne = ap (λ l. get_or l key []) e ∙ get_or-set_other (contents old) line key xs [] ne
 
 -- ---- the whole index

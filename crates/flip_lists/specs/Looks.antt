@@ -1,10 +1,12 @@
 -- Where a look for a flip passes others at once: what is noted of the flips that were walked over,
 -- and the places of the flips on each line.
 use Rattle.std.specs.Prelude.{◌≡◌, ℕ, ◌+◌, ◌-◌, ◌*◌, ◌%◌, ◌<◌, ◌==◌, Bool, false, not, ◌&&◌, ◌||◌, if◌then◌else◌, min, max}
-use Rattle.std.specs.Prelude.{Option, Some, None, List, [], ◌∷◌, length, nat_lt, replicate, slice_get, slice_index}
-use Rattle.std.specs.List.{list_any}
+use Rattle.std.specs.Prelude.{Option, Some, None, List, [], ◌∷◌, ◌++◌, length, map, nat_le, nat_lt, replicate, slice_get, slice_index, slice_index_or}
+use Rattle.std.specs.List.{count_by, find, list_any}
+use Rattle.std.specs.List.Sorted.{IsNonDecreasing}
 use Rattle.flip_lists.specs.declared.flip.Flip.{Flip}
 use Rattle.flip_lists.specs.declared.looks.Latest.{Latest}
+use Rattle.flip_lists.specs.declared.looks.OnLines.{OnLines}
 use Rattle.flip_lists.specs.declared.looks.TheConstants.{KINDS_FOR_EACH_FLIP}
 use Rattle.flip_lists.specs.declared.marks.TheConstants.{MOST_KINDS}
 use Rattle.flip_lists.specs.Flips.{are_free, controls_of}
@@ -90,3 +92,36 @@ are_apart latest flip walked =
     (like == 0)
     || stands_between like (slice_index latest.of_control.items flip.target) flip walked
     || targets_stand_between latest like flip walked
+
+-- ---- the places of the flips on each line
+
+-- how often a flip has the line: once or never, where its lines are different
+abbrev pub times : ℕ → List ℕ → ℕ
+times line lines = count_by (λ other. line == other) lines
+
+-- the places of the flips on a line, where the first has this one
+abbrev pub places_on : ℕ → ℕ → List Flip → List ℕ
+places_on line place [] = []
+places_on line place (flip ∷ flips) =
+    replicate (times line (flip.target ∷ controls_of flip)) place
+    ++ places_on line (place + 1) flips
+
+-- what is kept of a line
+abbrev pub line_places : OnLines → ℕ → List ℕ
+line_places on_lines line = slice_index_or (map (λ v. v.items) on_lines.places.items) line []
+
+-- the places of the flips, line by line, which rise
+pub record AreOnLines (lines : ℕ) (flips : List Flip) (on_lines : OnLines) : Type 0 where
+  pub long : length on_lines.places.items ≡ lines
+  pub each : (line : ℕ) → line < lines → line_places on_lines line ≡ places_on line 0 flips
+  pub rise : (line : ℕ) → IsNonDecreasing (line_places on_lines line)
+
+-- a place goes behind the others of each of the lines
+pub record ArePutOn (lines : List ℕ) (place : ℕ) (old new : OnLines) : Type 0 where
+  pub long : length new.places.items ≡ length old.places.items
+  pub each : (line : ℕ) → line < length old.places.items
+      → line_places new line ≡ line_places old line ++ replicate (times line lines) place
+
+-- the first of the places from one on
+abbrev pub first_from : ℕ → List ℕ → Option ℕ
+first_from from places = find (λ place. nat_le from place) places

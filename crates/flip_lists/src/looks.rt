@@ -1,8 +1,10 @@
 // Where a look for a flip passes others at once. No contract rests on it: it saves time alone.
 ghost use Rattle.std.specs.Prelude.{◌≡◌, ◌-◌, ◌≤◌, ◌∷◌, [], if◌then◌else◌, min, nat_lt};
-ghost use Rattle.std.specs.Prelude.{length, drop, slice_index, slice_set, IfOk};
-ghost use Rattle.flip_lists.specs.Flips.{lines_in};
-ghost use Rattle.flip_lists.specs.Looks.{AreSet, IsUnnoted, Notes, Stays, are_apart, kind_among};
+ghost use Rattle.std.specs.Prelude.{length, drop, slice_index, slice_set, IfOk, OnOk};
+ghost use Rattle.std.specs.List.Sorted.{IsNonDecreasing};
+ghost use Rattle.flip_lists.specs.Flips.{controls_of, lines_in};
+ghost use Rattle.flip_lists.specs.Looks.{AreOnLines, ArePutOn, AreSet, IsUnnoted, Notes, Stays};
+ghost use Rattle.flip_lists.specs.Looks.{are_apart, first_from, kind_among, line_places};
 ghost use Rattle.flip_lists.specs.Looks.{stands_between, targets_stand_between};
 
 use crate::flip::{Controls, Flip};
@@ -168,7 +170,9 @@ pub struct OnLines {
 
 impl OnLines {
     /// The places of the flips in a list.
-    pub fn new(alloc: Global, lines: u32, flips: &[Flip]) -> Result<OnLines, Memory> {
+    pub fn new(alloc: Global, lines: u32, flips: &[Flip]) -> Result<OnLines, Memory>
+        ensures { IfOk result (AreOnLines lines flips.now) }
+    {
         let places = empty_lists(alloc, lines)?;
         let mut on_lines = OnLines { places };
         for (place, flip) in flips.iter().enumerate() {
@@ -177,7 +181,9 @@ impl OnLines {
         Ok(on_lines)
     }
 
-    fn push(&mut self, flip: Flip, place: usize) -> Result<(), Memory> {
+    fn push(&mut self, flip: Flip, place: usize) -> Result<(), Memory>
+        ensures { OnOk result (ArePutOn (flip.target ∷ controls_of flip) place self.old self.new) }
+    {
         self.push_on(flip.target, place)?;
         match flip.controls {
             Controls::Zero => Ok(()),
@@ -189,7 +195,9 @@ impl OnLines {
         }
     }
 
-    fn push_on(&mut self, line: u32, place: usize) -> Result<(), Memory> {
+    fn push_on(&mut self, line: u32, place: usize) -> Result<(), Memory>
+        ensures { OnOk result (ArePutOn (line ∷ []) place self.old self.new) }
+    {
         let at = line as usize;
         if at < self.places.len() {
             self.places[at].push(place)?;
@@ -198,7 +206,10 @@ impl OnLines {
     }
 
     /// The first place, from one on, of a flip on the line.
-    pub fn first_from(&self, from: usize, line: u32) -> Option<usize> {
+    pub fn first_from(&self, from: usize, line: u32) -> Option<usize>
+        ensures { IsNonDecreasing (line_places self.now line)
+            → result ≡ first_from from (line_places self.now line) }
+    {
         let places = self.places.get(line as usize)?;
         let before = places.as_slice().partition_point(|place| *place < from);
         places.get(before).copied()
