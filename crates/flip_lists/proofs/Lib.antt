@@ -1,6 +1,7 @@
 pub mod FlipLemmas
 pub mod IndexLemmas
 pub mod LookLemmas
+pub mod MarkLemmas
 pub mod OnLineLemmas
 pub mod SettlingLemmas
 pub mod SpanLemmas

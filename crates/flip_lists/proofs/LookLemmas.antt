@@ -1,5 +1,5 @@
 -- What is noted of flips, one after another.
-use Rattle.std.proofs.Common.{◌≡◌, ◌∙◌, ℕ, ◌-◌, ◌<◌, Bool, true, false, ◌||◌, List, [], ◌∷◌, length, drop, set, refl, sym, subst, eqb, inl, inr}
+use Rattle.std.proofs.Common.{◌≡◌, ◌∙◌, ℕ, ◌<◌, Bool, true, false, ◌||◌, List, [], ◌∷◌, length, drop, set, refl, sym, subst, eqb, inl, inr}
 use Rattle.std.specs.Prelude.{◌==◌, if◌then◌else◌, slice_index}
 use Rattle.std.proofs.lemmas.Bool.{cases_Bool, eqb-true, eqb-false}
 use Rattle.std.proofs.lemmas.List.{get_or-set_same, get_or-set_other, length-set}
@@ -7,7 +7,8 @@ use Rattle.mct_circuit.specs.Sizes.{has_line}
 use Rattle.flip_lists.specs.declared.flip.Flip.{Flip}
 use Rattle.flip_lists.specs.declared.looks.Latest.{Latest}
 use Rattle.flip_lists.specs.Flips.{controls_of}
-use Rattle.flip_lists.specs.Looks.{AreSet, kind_among, latest_end}
+use Rattle.flip_lists.specs.Looks.{kind_among, latest_end}
+use Rattle.flip_lists.specs.inside.Looks.{AreSet}
 
 -- the ends so far, with the flips from a place on, are what they are with all of them
 pub record AreNoting (test : ℕ → Flip → Bool) (walked : List Flip) (from place : ℕ) (old now : List ℕ) : Type 0 where

@@ -12,7 +12,8 @@ use Rattle.list_facts.proofs.AllLemmas.{AllByRecursion-append, AllByRecursion-at
 use Rattle.flip_lists.specs.declared.flip.Flip.{Flip}
 use Rattle.flip_lists.specs.declared.looks.OnLines.{OnLines}
 use Rattle.flip_lists.specs.Flips.{controls_of}
-use Rattle.flip_lists.specs.Looks.{AreOnLines, ArePutOn, first_from, line_places, places_on, times}
+use Rattle.flip_lists.specs.Looks.{AreOnLines, first_from, line_places, places_on, times}
+use Rattle.flip_lists.specs.inside.Looks.{ArePutOn}
 use Rattle.flip_lists.specs.inside.Index.{contents, places_at}
 use Rattle.flip_lists.proofs.IndexLemmas.{changed_at, contents-push, kept_at, length-contents, same_length}
 

@@ -40,12 +40,6 @@ pub record AreNoted (test : ℕ → Flip → Bool) (place : ℕ) (flips : List F
   pub each : (at : ℕ) → at < length old
       → slice_index new at ≡ latest_end (test at) place flips (slice_index old at)
 
--- an end stands at each of the lines, and the others stay
-pub record AreSet (lines : List ℕ) (end : ℕ) (old new : List ℕ) : Type 0 where
-  pub long : length new ≡ length old
-  pub each : (at : ℕ) → at < length old
-      → slice_index new at ≡ (if has_line at lines then end else slice_index old at)
-
 -- the flips from a place on are noted by their kinds, targets and controls
 pub record Notes (place : ℕ) (flips : List Flip) (old new : Latest) : Type 0 where
   pub kinds : AreNoted (λ kind flip. kind_among (length old.of_kind.items) flip == kind) place flips
@@ -115,12 +109,6 @@ pub record AreOnLines (lines : ℕ) (flips : List Flip) (on_lines : OnLines) : T
   pub long : length on_lines.places.items ≡ lines
   pub each : (line : ℕ) → line < lines → line_places on_lines line ≡ places_on line 0 flips
   pub rise : (line : ℕ) → IsNonDecreasing (line_places on_lines line)
-
--- a place goes behind the others of each of the lines
-pub record ArePutOn (lines : List ℕ) (place : ℕ) (old new : OnLines) : Type 0 where
-  pub long : length new.places.items ≡ length old.places.items
-  pub each : (line : ℕ) → line < length old.places.items
-      → line_places new line ≡ line_places old line ++ replicate (times line lines) place
 
 -- the first of the places from one on
 abbrev pub first_from : ℕ → List ℕ → Option ℕ

@@ -1,7 +1,8 @@
 -- What is noted of the lines of a change, and which flips can come to it.
-use Rattle.std.specs.Prelude.{◌≡◌, ℕ, ◌-◌, Bool, true, false, not, ◌==◌, ◌&&◌, ◌||◌, if◌then◌else◌, List, [], ◌∷◌, ◌++◌}
+use Rattle.std.specs.Prelude.{◌≡◌, ◌≢◌, ℕ, ◌-◌, Bool, true, false, not, ◌==◌, ◌&&◌, ◌||◌, if◌then◌else◌, List, [], ◌∷◌, ◌++◌}
 use Rattle.std.specs.Prelude.{slice_index, slice_set, bit_and, bit_or, drop, nat_lt}
-use Rattle.std.specs.List.{filter, fold, list_any}
+use Rattle.std.specs.List.{count_by, filter, fold, list_any}
+use Rattle.list_facts.specs.Lists.{IsAmong}
 use Rattle.flip_lists.specs.declared.flip.Flip.{Flip}
 use Rattle.flip_lists.specs.declared.marks.TheConstants.{CONTROL, FREED_CONTROL, FREED_TARGET, NEW, OPEN, TARGET}
 use Rattle.flip_lists.specs.declared.marks.Marks.{Marks}
@@ -124,14 +125,22 @@ with_passed_from from walked notes = fold with_passed notes (drop from walked)
 abbrev pub passed_without : ℕ → ℕ → ℕ
 passed_without place passed = if nat_lt place passed then passed - 1 else passed
 
+-- the open lines are counted, and each line that has a mark is a line of the change
+pub record AreKept (marks : Marks) : Type 0 where
+  pub counted : marks.open_lines ≡ count_by (λ word. has word OPEN) marks.words.items
+  pub listed : (line : ℕ) → slice_index marks.words.items line ≢ 0
+      → IsAmong line marks.lines.items
+
 -- the flip is freed; then those that were walked over behind the place are passed over
 pub record FreesBehind (flip : Flip) (place : ℕ) (walked : List Flip) (old new : Marks) : Type 0
   where
     pub passed : new.passed ≡ passed_without place old.passed
     pub are : notes_of new
         ≡ with_passed_from new.passed walked (with_freed (notes_of old) flip)
+    pub kept : AreKept old → AreKept new
 
 -- the notes change so, and the place behind which flips are passed over stays
 pub record Becomes (old new : Marks) (notes : Notes) : Type 0 where
   pub are : notes_of new ≡ notes
   pub passed : new.passed ≡ old.passed
+  pub kept : AreKept old → AreKept new

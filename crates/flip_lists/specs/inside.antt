@@ -1,2 +1,4 @@
 -- What only private contracts and proofs cite.
 pub mod Index
+pub mod Looks
+pub mod Marks

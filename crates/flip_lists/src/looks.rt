@@ -3,9 +3,10 @@ ghost use Rattle.std.specs.Prelude.{◌≡◌, ◌-◌, ◌≤◌, ◌∷◌, []
 ghost use Rattle.std.specs.Prelude.{length, drop, slice_index, slice_set, IfOk, OnOk};
 ghost use Rattle.std.specs.List.Sorted.{IsNonDecreasing};
 ghost use Rattle.flip_lists.specs.Flips.{controls_of, lines_in};
-ghost use Rattle.flip_lists.specs.Looks.{AreOnLines, ArePutOn, AreSet, IsUnnoted, Notes, Stays};
+ghost use Rattle.flip_lists.specs.Looks.{AreOnLines, IsUnnoted, Notes, Stays};
 ghost use Rattle.flip_lists.specs.Looks.{are_apart, first_from, kind_among, line_places};
 ghost use Rattle.flip_lists.specs.Looks.{stands_between, targets_stand_between};
+ghost use Rattle.flip_lists.specs.inside.Looks.{ArePutOn, AreSet};
 
 use crate::flip::{Controls, Flip};
 use crate::index::empty_lists;

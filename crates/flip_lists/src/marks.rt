@@ -1,14 +1,16 @@
 // Where a pair can come of a change. No contract rests on it: it saves looks for flips.
 ghost use Rattle.std.specs.Prelude.{◌≡◌, ◌<◌, ◌↔◌, ◌∷◌, [], IfOk, IsTrue, OnOk, replicate};
 ghost use Rattle.std.specs.Prelude.{slice_index};
+ghost use Rattle.std.specs.List.{list_any};
 ghost use Rattle.flip_lists.specs.declared.marks.TheConstants.{MOST_KINDS, OPEN};
 ghost use Rattle.flip_lists.specs.Flips.{controls_of, lines_in};
 ghost use Rattle.flip_lists.specs.Kinds.{AreAdded, AreRemoved, count_of, kind_of};
-ghost use Rattle.flip_lists.specs.Marks.{Becomes, FreesBehind, changed, cleared, has};
+ghost use Rattle.flip_lists.specs.Marks.{AreKept, Becomes, FreesBehind, changed, cleared, has};
 ghost use Rattle.flip_lists.specs.Marks.{is_any_marked, is_freed, is_marked, is_on_new, is_stopped};
 ghost use Rattle.flip_lists.specs.Marks.{lets_come, listed, marked, may_come, noted, notes_of};
 ghost use Rattle.flip_lists.specs.Marks.{touches_open, with_freed, with_new, with_openness};
 ghost use Rattle.flip_lists.specs.Marks.{with_passed};
+ghost use Rattle.flip_lists.specs.inside.Marks.{GetMarks};
 
 use crate::flip::{Controls, Flip};
 use revc_base::Memory;
@@ -42,7 +44,8 @@ pub struct Marks {
 impl Marks {
     /// No line is marked.
     pub fn new(alloc: Global, lines: u32) -> Result<Marks, Memory>
-        ensures { IfOk result (λ marks. marks.words.items ≡ replicate lines 0) }
+        ensures words { IfOk result (λ marks. marks.words.items ≡ replicate lines 0) }
+        ensures kept { IfOk result AreKept }
     {
         let words = vec![in alloc; 0; lines as usize]?;
         Ok(Marks {
@@ -55,7 +58,9 @@ impl Marks {
 
     /// Whether a flip behind those that were passed over can still come to the change.
     pub fn are_open(&self) -> bool
-        ensures { IsTrue result ↔ (0 < self.now.open_lines) }
+        ensures count { IsTrue result ↔ (0 < self.now.open_lines) }
+        ensures open { AreKept self.now
+            → result ≡ list_any (λ word. has word OPEN) self.now.words.items }
     {
         self.open_lines > 0
     }
@@ -165,6 +170,7 @@ impl Marks {
     pub fn begin(&mut self, behind: usize)
         ensures notes { notes_of self.new ≡ notes_of self.old }
         ensures passed { self.new.passed ≡ behind }
+        ensures kept { AreKept self.old → AreKept self.new }
     {
         self.passed = behind;
     }
@@ -235,7 +241,7 @@ impl Marks {
 
     // Notes a flip on its lines, or only on those that are lines of the change already.
     fn add_lines(&mut self, flip: Flip, of_target: u8, of_controls: u8, all: bool)
-        ensures { Becomes self.old self.new
+        ensures { GetMarks (flip.target ∷ controls_of flip) all self.old self.new
             (noted of_target of_controls all flip (notes_of self.old)) }
     {
         self.add(flip.target, of_target, all);
@@ -250,7 +256,7 @@ impl Marks {
     }
 
     fn add(&mut self, line: u32, bit: u8, all: bool)
-        ensures { Becomes self.old self.new
+        ensures { GetMarks (line ∷ []) all self.old self.new
             (record {
               words = marked bit all self.old.words.items line;
               lines = self.old.lines.items;

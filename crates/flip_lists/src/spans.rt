@@ -1,5 +1,5 @@
 // Where a walk need not look again. No contract rests on it: it saves looks at blocks.
-ghost use Rattle.std.specs.Prelude.{◌≡◌, ◌<◌, ◌++◌, ◌∷◌, [], None, option_to_list, IfOk, OnOk};
+ghost use Rattle.std.specs.Prelude.{◌≡◌, ◌<◌, ◌++◌, ◌∷◌, [], None, option_to_list, OnOk};
 ghost use Rattle.flip_lists.specs.Spans.{DropsBefore, IsClosed, IsOpened};
 ghost use Rattle.flip_lists.specs.Spans.{closed, last_end, length_from, nearest, opened};
 
