@@ -41,7 +41,7 @@ pub record AreNoted (test : ℕ → Flip → Bool) (place : ℕ) (flips : List F
       → slice_index new at ≡ latest_end (test at) place flips (slice_index old at)
 
 -- the flips from a place on are noted by their kinds, targets and controls
-pub record Notes (place : ℕ) (flips : List Flip) (old new : Latest) : Type 0 where
+pub record NotesLatest (place : ℕ) (flips : List Flip) (old new : Latest) : Type 0 where
   pub kinds : AreNoted (λ kind flip. kind_among (length old.of_kind.items) flip == kind) place flips
       old.of_kind.items new.of_kind.items
   pub targets : AreNoted (λ line flip. flip.target == line) place flips

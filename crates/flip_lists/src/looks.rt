@@ -3,7 +3,7 @@ ghost use Rattle.std.specs.Prelude.{◌≡◌, ◌-◌, ◌≤◌, ◌∷◌, []
 ghost use Rattle.std.specs.Prelude.{length, drop, slice_index, slice_set, IfOk, OnOk};
 ghost use Rattle.std.specs.List.Sorted.{IsNonDecreasing};
 ghost use Rattle.flip_lists.specs.Flips.{controls_of, lines_in};
-ghost use Rattle.flip_lists.specs.Looks.{AreOnLines, IsUnnoted, Notes, Stays};
+ghost use Rattle.flip_lists.specs.Looks.{AreOnLines, IsUnnoted, NotesLatest, Stays};
 ghost use Rattle.flip_lists.specs.Looks.{are_apart, first_from, kind_among, line_places};
 ghost use Rattle.flip_lists.specs.Looks.{stands_between, targets_stand_between};
 ghost use Rattle.flip_lists.specs.inside.Looks.{ArePutOn, AreSet};
@@ -47,7 +47,8 @@ impl Latest {
 
     /// Notes those that were walked over and are not noted.
     pub fn note_all(&mut self, walked: &[Flip])
-        ensures notes { Notes self.old.noted (drop self.old.noted walked.now) self.old self.new }
+        ensures notes { NotesLatest self.old.noted (drop self.old.noted walked.now) self.old
+            self.new }
         ensures noted { self.new.noted ≡ length walked.now }
     {
         for place in self.noted..walked.len() {
@@ -78,7 +79,7 @@ impl Latest {
     // Notes a flip, the last of so many that were walked over.
     fn note(&mut self, flip: Flip, end: usize)
         requires { 1 ≤ end }
-        ensures notes { Notes (end - 1) (flip ∷ []) self.old self.new }
+        ensures notes { NotesLatest (end - 1) (flip ∷ []) self.old self.new }
         ensures noted { self.new.noted ≡ self.old.noted }
     {
         let kind = self.kind_of(flip);
