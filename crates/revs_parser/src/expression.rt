@@ -1,7 +1,7 @@
 // Expressions.
 
 ghost use Rattle.std.specs.Prelude.{◌≡◌, ◌+◌, ◌<◌, ◌≤◌, true, false, length};
-ghost use Rattle.std.specs.Prelude.{[], ◌∷◌, map, IfOk, IfErr, IfSome, IfNone};
+ghost use Rattle.std.specs.Prelude.{map, IfOk, IfErr, IfSome, IfNone};
 ghost use Rattle.std.specs.Prelude.{MatchResult};
 ghost use Rattle.revs_terms.specs.declared.limits.TheConstants.{MOST_LEVELS};
 ghost use Rattle.revs_grammar.specs.Forms as g;
@@ -17,7 +17,7 @@ ghost use Rattle.revs_parser.specs.inside.Forms.{ReadsFunctionNames, in_function
 ghost use Rattle.revs_parser.specs.inside.Forms.{in_bound_names, ReadsAppend, in_append, closed_by};
 ghost use Rattle.revs_parser.specs.inside.Forms.{EndsPiece, HeadsFor, NoFor, ReadsFor, in_for};
 ghost use Rattle.revs_parser.specs.inside.Forms.{in_range, ReadsLoop, in_loop, GivesAt, in_parts};
-ghost use Rattle.revs_parser.specs.inside.Forms.{infix_sign, infix_term, ReadsChain, in_chain};
+ghost use Rattle.revs_parser.specs.inside.Forms.{infix_sign, infix_term, in_chain};
 ghost use Rattle.revs_parser.specs.inside.Forms.{ReadsOperand, in_operand, ReadsOpened, in_opened};
 ghost use Rattle.revs_parser.specs.inside.Forms.{NoPartBehind, ReadsAssigned, ReadsOperated};
 ghost use Rattle.revs_parser.specs.inside.Forms.{in_atom, ReadsMore, HaltsMore};
@@ -249,7 +249,7 @@ impl Reader {
             let level = self.open(tokens)?;
             return Reader { level, ..self }.function(behind, at);
         }
-        let (left, rest) = self.chained(tokens, Infix::Xor)?;
+        let (left, rest) = self.sum(tokens)?;
         let Some((_, behind)) = after(rest, Sign::Assign) else {
             return Ok((left, rest));
         };
@@ -264,7 +264,7 @@ impl Reader {
             (λ term. ReadsAssigned self.profile self.level (tree_of target) (tree_of term))
             (in_chain infixes.Xor self.profile self.level) tokens.entry result }
     {
-        let (target, (value, rest)) = both(target, self.chained(tokens, Infix::Xor))?;
+        let (target, (value, rest)) = both(target, self.sum(tokens))?;
         let term = assignment(self.alloc, target, value)?;
         Ok((term, rest))
     }
@@ -282,19 +282,29 @@ impl Reader {
         Ok((term, rest))
     }
 
-    // The operands of a chain, one after another. Most chains are one operand, so that what more
-    // of them want stands apart.
+    // Most sums and products are one operand, so that what more of them want stands apart.
     #[cycle(read)]
-    fn chained(self, tokens: Rest, operator: Infix) -> Result<(Term, Rest), Stop>
+    fn sum(self, tokens: Rest) -> Result<(Term, Rest), Stop>
         requires { self.level ≤ MOST_LEVELS }
-        ensures { Gives (λ term. ReadsChain operator self.profile self.level (tree_of term))
-            (in_chain operator self.profile self.level) tokens.entry result }
+        ensures { GivesAt g.sum self tree_of tokens.entry result }
     {
-        let (first, rest) = self.operand(tokens, operator)?;
-        let Some((_, behind)) = after(rest, operator.sign()) else {
+        let (first, rest) = self.product(tokens)?;
+        let Some((_, behind)) = after(rest, Sign::Xor) else {
             return Ok((first, rest));
         };
-        self.chained_behind(first, behind, operator)
+        self.chained_behind(first, behind, Infix::Xor)
+    }
+
+    #[cycle(read)]
+    fn product(self, tokens: Rest) -> Result<(Term, Rest), Stop>
+        requires { self.level ≤ MOST_LEVELS }
+        ensures { GivesAt g.product self tree_of tokens.entry result }
+    {
+        let (first, rest) = self.application(tokens)?;
+        let Some((_, behind)) = after(rest, Sign::And) else {
+            return Ok((first, rest));
+        };
+        self.chained_behind(first, behind, Infix::And)
     }
 
     // The operands of a chain behind the first one and a sign.
@@ -332,7 +342,7 @@ impl Reader {
             (in_operand operator self.profile self.level) tokens.entry result }
     {
         match operator {
-            Infix::Xor => self.chained(tokens, Infix::And),
+            Infix::Xor => self.product(tokens),
             Infix::And => self.application(tokens),
         }
     }

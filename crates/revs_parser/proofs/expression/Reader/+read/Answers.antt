@@ -7,6 +7,7 @@ use Rattle.revs_lexer.specs.Rest.{left}
 use Rattle.revs_parser.proofs.PassingLemmas.{only, smaller_behind, halts_on, lacks}
 use Rattle.revs_parser.proofs.ReadingLemmas as r
 use Rattle.revs_parser.proofs.ItemLemmas as i
+use Rattle.revs_parser.specs.declared.expression.Infix.TheVariants as infixes
 use Rattle.revs_parser.proofs.expression.Reader.+read.Goals as goal
 
 -- ---- expressions
@@ -21,22 +22,21 @@ expression-returns-in_err-left t c =
     halts_on _ _ _ c.from_residual-in_err-left.ensures.1 (r.expression_in_sum c.args.self.level c.in_default.ensures.none c.in_err-left.ensures)
 
 pub expression-returns-in_default-after : goal.expression-returns-in_default-after
-expression-returns-in_default-after t c = r.expression_sum c.args.self.level c.in_default.ensures.none c.in_ok-left.ensures.reads
+expression-returns-in_default-after t c = r.expression_sum c.args.self.level c.in_default.ensures.none c.in_ok-left.ensures
     c.in_default-after.ensures.none
 
 pub expression-returns : goal.expression-returns
 expression-returns t c = MatchResult-weaker c.assigned.result c.assigned.ensures
-    (λ x read. r.expression_assign c.args.self.level c.in_default.ensures.none c.in_ok-left.ensures.reads c.in-Some-after.ensures.found read.reads read.is)
-    (λ x. r.expression_in_assigned c.args.self.level c.in_default.ensures.none c.in_ok-left.ensures.reads c.in-Some-after.ensures.found)
+    (λ x read. r.expression_assign c.args.self.level c.in_default.ensures.none c.in_ok-left.ensures c.in-Some-after.ensures.found read.reads read.is)
+    (λ x. r.expression_in_assigned c.args.self.level c.in_default.ensures.none c.in_ok-left.ensures c.in-Some-after.ensures.found)
 
 pub assigned-returns-in_err-target : goal.assigned-returns-in_err-target
-assigned-returns-in_err-target t c = halts_on _ _ _ c.from_residual.ensures.1 (rw c.in_err-target.ensures at c.chained.ensures)
+assigned-returns-in_err-target t c = halts_on _ _ _ c.from_residual.ensures.1 (rw c.in_err-target.ensures at c.sum.ensures)
 
 pub assigned-returns : goal.assigned-returns
 assigned-returns t c =
     let both = c.in_ok-target.ensures in
-    let value = rw both.1 at c.chained.ensures in
-    record { value = tree_of c.in_ok-target.value; is = rw both.0 at c.in_ok-term.ensures; reads = value.reads }
+    record { value = tree_of c.in_ok-target.value; is = rw both.0 at c.in_ok-term.ensures; reads = rw both.1 at c.sum.ensures }
 
 -- ---- functions
 
@@ -46,17 +46,29 @@ function-returns t c =
 
 -- ---- chains
 
-pub chained-returns-in_err-first : goal.chained-returns-in_err-first
-chained-returns-in_err-first t c =
-    halts_on _ _ _ c.from_residual.ensures.1 (r.chain_no_first c.args.operator c.args.self.level c.in_err-first.ensures)
+pub sum-returns-in_err-first : goal.sum-returns-in_err-first
+sum-returns-in_err-first t c = halts_on _ _ _ c.from_residual.ensures.1 (r.chain_no_first infixes.Xor c.args.self.level c.in_err-first.ensures)
 
-pub chained-returns-in_default : goal.chained-returns-in_default
-chained-returns-in_default t c = r.chain_alone c.args.operator c.args.self.level c.in_ok-first.ensures (rw c.sign.ensures at c.in_default.ensures.none)
+pub sum-returns-in_default : goal.sum-returns-in_default
+sum-returns-in_default t c =
+    let chain = r.chain_alone infixes.Xor c.args.self.level (record { reads = c.in_ok-first.ensures }) c.in_default.ensures.none in chain.reads
 
-pub chained-returns : goal.chained-returns
-chained-returns t c = MatchResult-weaker c.chained_behind.result c.chained_behind.ensures
-    (λ x more. more.chain _ _ _ c.in_ok-first.ensures (rw c.sign.ensures at c.in-Some.ensures.found))
-    (λ x more. more.chain _ _ _ c.in_ok-first.ensures (rw c.sign.ensures at c.in-Some.ensures.found))
+pub sum-returns : goal.sum-returns
+sum-returns t c = MatchResult-weaker c.chained_behind.result c.chained_behind.ensures
+    (λ x more. let chain = more.chain _ _ _ (record { reads = c.in_ok-first.ensures }) c.in-Some.ensures.found in chain.reads)
+    (λ x more. more.chain _ _ _ (record { reads = c.in_ok-first.ensures }) c.in-Some.ensures.found)
+
+pub product-returns-in_err-first : goal.product-returns-in_err-first
+product-returns-in_err-first t c = halts_on _ _ _ c.from_residual.ensures.1 (r.chain_no_first infixes.And c.args.self.level c.in_err-first.ensures)
+
+pub product-returns-in_default : goal.product-returns-in_default
+product-returns-in_default t c =
+    let chain = r.chain_alone infixes.And c.args.self.level (record { reads = c.in_ok-first.ensures }) c.in_default.ensures.none in chain.reads
+
+pub product-returns : goal.product-returns
+product-returns t c = MatchResult-weaker c.chained_behind.result c.chained_behind.ensures
+    (λ x more. let chain = more.chain _ _ _ (record { reads = c.in_ok-first.ensures }) c.in-Some.ensures.found in chain.reads)
+    (λ x more. more.chain _ _ _ (record { reads = c.in_ok-first.ensures }) c.in-Some.ensures.found)
 
 pub chained_behind-operands-init : goal.chained_behind-operands-init
 chained_behind-operands-init t c = record {
@@ -96,7 +108,7 @@ chained_behind-operands-smaller t c =
 
 pub operand-returns-in-Xor : goal.operand-returns-in-Xor
 operand-returns-in-Xor t c =
-    rw c.in-Xor.is (MatchResult-weaker c.chained.result c.chained.ensures (λ x r. record { reads = r.reads }) (λ x h. h))
+    rw c.in-Xor.is (MatchResult-weaker c.product.result c.product.ensures (λ x r. record { reads = r }) (λ x h. h))
 
 pub operand-returns-in-And : goal.operand-returns-in-And
 operand-returns-in-And t c =

@@ -68,8 +68,11 @@ decreases-loop_item l = (101 - l.self.level) * 32 + 16
 abbrev pub decreases-register : goal.decreases-register
 decreases-register l = (101 - l.self.level) * 32 + 13
 
-abbrev pub decreases-chained : goal.decreases-chained
-decreases-chained l = (101 - l.self.level) * 32 + (operand_height l.operator + 2)
+abbrev pub decreases-sum : goal.decreases-sum
+decreases-sum l = (101 - l.self.level) * 32 + 10
+
+abbrev pub decreases-product : goal.decreases-product
+decreases-product l = (101 - l.self.level) * 32 + 7
 
 abbrev pub decreases-chained_behind : goal.decreases-chained_behind
 decreases-chained_behind l = (101 - l.self.level) * 32 + suc (operand_height l.operator)
