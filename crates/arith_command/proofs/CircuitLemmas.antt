@@ -5,7 +5,7 @@ use Rattle.std.proofs.lemmas.List.{length-replicate}
 use Rattle.arith_command.specs.Arith.{Gives, IsCircuitOf, IsProgramOf, IsWrittenAs, AddsNumbers, StopsAs, compile_order, program_text}
 use Rattle.arith_command.specs.Outcomes.{IsArithFault, made_text}
 use Rattle.arith_command.specs.declared.arith.Made.{Made}
-use Rattle.arith_runs.specs.Computes.{Computes}
+use Rattle.arith_laws.specs.Computes.{Computes}
 use Rattle.arith_templates.specs.Meets.{inputs_of, outputs_of}
 use Rattle.arith_templates.specs.declared.kind.Kind.TheVariants.{Add, Mul}
 use Rattle.command_answers.specs.declared.fault.Fault.{Fault}

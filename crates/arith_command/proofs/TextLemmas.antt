@@ -1,11 +1,11 @@
 -- The texts of all kinds compute what their kind says.
 use Rattle.std.proofs.Common.{refl}
 use Rattle.arith_command.specs.Texts.{TextsCompute}
-use Rattle.arith_increments.proofs.IncrementLemmas.{incrementers_add_one}
-use Rattle.arith_products.proofs.MultiplierLemmas.{multipliers_multiply}
-use Rattle.arith_runs.proofs.AdderLemmas.{adders_add}
-use Rattle.arith_runs.proofs.ComparatorLemmas.{comparators_compare}
-use Rattle.arith_runs.proofs.SubtractorLemmas.{subtractors_subtract}
+use Rattle.arith_laws.proofs.IncrementLemmas.{incrementers_add_one}
+use Rattle.arith_laws.proofs.MultiplierLemmas.{multipliers_multiply}
+use Rattle.arith_laws.proofs.AdderLemmas.{adders_add}
+use Rattle.arith_laws.proofs.ComparatorLemmas.{comparators_compare}
+use Rattle.arith_laws.proofs.SubtractorLemmas.{subtractors_subtract}
 use Rattle.arith_templates.specs.declared.kind.Kind.TheVariants.{Add, Sub, Less, Inc, Mul}
 
 pub texts_compute : TextsCompute

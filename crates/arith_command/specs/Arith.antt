@@ -1,6 +1,6 @@
 -- `arith`: a program that computes with numbers, or the file of its clean circuit.
 use Rattle.std.specs.Prelude.{◌≡◌, ℕ, ◌≤◌, Bool, List, [], ◌∷◌, length, None}
-use Rattle.arith_runs.specs.Computes.{Computes}
+use Rattle.arith_laws.specs.Computes.{Computes}
 use Rattle.arith_templates.specs.Meets.{inputs_of, outputs_of, Meets}
 use Rattle.arith_templates.specs.Texts.{text_of}
 use Rattle.arith_templates.specs.declared.kind.Kind.TheVariants.{Add}

@@ -1,6 +1,6 @@
 -- That the texts of all kinds compute what their kind says.
 use Rattle.std.specs.Prelude.{◌≡◌, ℕ, ◌≤◌}
-use Rattle.arith_runs.specs.Computes.{Computes}
+use Rattle.arith_laws.specs.Computes.{Computes}
 use Rattle.arith_templates.specs.Texts.{text_of}
 use Rattle.arith_templates.specs.declared.kind.Kind.{Kind}
 use Rattle.arith_templates.specs.declared.kind.Kind.TheVariants.{Mul}

@@ -4,8 +4,8 @@ use Rattle.std.specs.Result.{IfOk, IfErr}
 use Rattle.command_answers.specs.declared.fault.Fault.{Fault}
 use Rattle.command_answers.specs.declared.fault.Fault.TheVariants as faults
 use Rattle.program_commands.specs.Outcomes.{IsAdderSize, IsBudgetFault, IsCompileFault}
-use Rattle.arith_runs.proofs.AdderLemmas.{adders_add}
-use Rattle.arith_runs.specs.Computes.{Computes}
+use Rattle.arith_laws.proofs.AdderLemmas.{adders_add}
+use Rattle.arith_laws.specs.Computes.{Computes}
 use Rattle.arith_templates.specs.declared.kind.Kind.TheVariants.{Add}
 use Rattle.command_answers.specs.Outcomes.{HasOneOutcome}
 use Rattle.circuit_plans.specs.Plans.{LaidView, roles_of}

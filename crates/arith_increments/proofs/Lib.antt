@@ -1,4 +1,0 @@
-pub mod IncrementLemmas
-pub mod IncrementPieces
-pub mod IncrementReadingLemmas
-pub mod IncrementTextLemmas

@@ -1,5 +1,0 @@
-use Rattle.arith_increments.proofs.IncrementLemmas.{incrementers_add_one}
-use Rattle.arith_increments.proofs.incrementers_add_one.Goals as goal
-
-pub returns : goal.returns
-returns c = incrementers_add_one

@@ -1,5 +1,0 @@
-use Rattle.arith_runs.proofs.AdderLemmas.{adders_add}
-use Rattle.arith_runs.proofs.adders_add.Goals as goal
-
-pub returns : goal.returns
-returns c = adders_add

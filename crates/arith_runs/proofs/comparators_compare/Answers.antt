@@ -1,5 +1,0 @@
-use Rattle.arith_runs.proofs.ComparatorLemmas.{comparators_compare}
-use Rattle.arith_runs.proofs.comparators_compare.Goals as goal
-
-pub returns : goal.returns
-returns c = comparators_compare
