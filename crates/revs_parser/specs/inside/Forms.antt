@@ -208,19 +208,23 @@ pub record ReadsOperand (operator : Infix) (p : Profile) (level : ℕ) (term : T
     (ts rest : List Token) : Type 0 where
   pub reads : IsOperand operator p level term ts rest
 
+-- The sign of a chain comes next.
+abbrev pub HeadsInfix : Infix → Place → List Token → List Token → Type 0
+HeadsInfix operator at now behind = Heads (toks.Sign (infix_sign operator)) at now behind
+
 -- The operands of a chain behind the first one and a sign were read: from wherever the first was
 -- read, the chain is read from there.
 pub record ReadsMore (operator : Infix) (p : Profile) (level : ℕ) (first term : Tree)
     (ts rest : List Token) : Type 0 where
   pub chain : (all between : List Token) (at : Place)
-      → ReadsOperand operator p level first all between → Heads (toks.Sign (infix_sign operator)) at between ts
+      → ReadsOperand operator p level first all between → HeadsInfix operator at between ts
       → ReadsChain operator p level term all rest
 
 -- The machine that expects the chain halts so behind them, from wherever the first was read.
 pub record HaltsMore (operator : Infix) (p : Profile) (level : ℕ) (first : Tree)
     (ts : List Token) (stop : Stop) : Type 0 where
   pub chain : (all between : List Token) (at : Place)
-      → ReadsOperand operator p level first all between → Heads (toks.Sign (infix_sign operator)) at between ts
+      → ReadsOperand operator p level first all between → HeadsInfix operator at between ts
       → Halts (in_chain operator p level) all stop
 
 -- What is assigned to a term was read, behind the sign.
