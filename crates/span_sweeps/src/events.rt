@@ -1,5 +1,5 @@
 // What a sweep finds, for its replay.
-use span_rows::{Add, Inserted, Row};
+use span_rows::{Add, Row};
 
 /// The two factors of a product, each as the sum of some rows.
 #[derive(Drop)]
@@ -23,7 +23,8 @@ pub struct Toggle {
 }
 
 impl Toggle {
-    fn size(&self) -> usize {
+    /// How many additions, and rows of factors, it notes.
+    pub fn size(&self) -> usize {
         let mut size = self.before.len().saturating_add(self.after.len());
         for factors in &self.factors {
             size = size.saturating_add(factors.first.len());
@@ -76,39 +77,4 @@ pub enum Event {
 pub struct End {
     pub onto: u32,
     pub rows: Vec<Row>,
-}
-
-impl Event {
-    /// How many additions, and rows of factors, it notes.
-    pub fn size(&self) -> usize {
-        match self.toggle() {
-            Some(toggle) => toggle.size(),
-            None => 0,
-        }
-    }
-
-    /// The toggle, where it is one.
-    pub fn toggle(&self) -> Option<&Toggle> {
-        match self {
-            Event::On { toggle, .. } => Some(toggle),
-            Event::Off { toggle, .. } => Some(toggle),
-            Event::Final { toggle } => Some(toggle),
-            Event::Part { toggle, .. } => Some(toggle),
-            Event::Open { .. } | Event::Close { .. } => None,
-        }
-    }
-}
-
-/// A toggle; what was done for its factors is undone behind it, the last first.
-pub fn toggle_of(node: u32, before: Vec<Add>, factors: Vec<Factors>, done: Inserted) -> Toggle {
-    let Inserted { adds, new } = done;
-    let mut after = adds;
-    after.reverse();
-    Toggle {
-        node,
-        before,
-        factors,
-        after,
-        new,
-    }
 }

@@ -6,6 +6,7 @@
 mod blocks;
 mod events;
 mod measures;
+mod state;
 mod sweeping;
 mod toggles;
 

@@ -1,7 +1,6 @@
 // What a plan costs, as far as a sweep tells.
 use crate::events::{End, Event, Toggle};
-use span_graphs::SpanGraph;
-use span_rows::{Row, Stop, number};
+use span_rows::Row;
 
 /// The work lines and the gates of a plan. The CX gates are those of its replay, but that some of
 /// them are then saved.
@@ -13,21 +12,21 @@ pub struct Measures {
 }
 
 impl Measures {
+    /// Of nothing.
+    pub fn none() -> Measures {
+        Measures {
+            work: 0,
+            toffoli: 0,
+            cx: 0,
+        }
+    }
+
     /// Those of these events, between these rows of inputs and ends.
-    pub fn of(
-        graph: &SpanGraph,
-        events: &[Event],
-        first: &[(Row, Vec<u32>)],
-        ends: &[End],
-    ) -> Result<Measures, Stop> {
+    pub fn of(events: &[Event], first: &[(Row, Vec<u32>)], ends: &[End]) -> Measures {
         let mut count = Count {
             held: 0,
             block: None,
-            measures: Measures {
-                work: 0,
-                toffoli: 0,
-                cx: 0,
-            },
+            measures: Measures::none(),
         };
         for (_, vector) in first {
             count.add_cx(2, vector.len().saturating_sub(1));
@@ -36,50 +35,65 @@ impl Measures {
             count.add_cx(1, end.rows.len());
         }
         for event in events {
-            count.add(graph, event)?;
+            count.add(event);
         }
-        Ok(count.measures)
+        count.measures
     }
 }
 
 // What was counted, and the work lines that are held.
 #[derive(Clone, Copy)]
 struct Count {
-    held: u32,
+    held: usize,
     /// Of the block, where it is in one, the work lines that are held in the end.
-    block: Option<u32>,
+    block: Option<usize>,
     measures: Measures,
 }
 
 impl Count {
-    fn add(&mut self, graph: &SpanGraph, event: &Event) -> Result<(), Stop> {
+    fn add(&mut self, event: &Event) {
         match event {
             Event::On {
                 toggle,
                 is_fresh,
+                rest,
                 ..
-            } => {
-                let has_home = graph.node(toggle.node)?.home.is_some();
-                self.add_toggle(if has_home { 1 } else { self.times() }, toggle);
-                if *is_fresh && !has_home {
-                    self.hold(1);
-                }
-            }
-            Event::Off { toggle, .. } => {
-                self.add_toggle(self.times(), toggle);
-                self.held = self.held.saturating_sub(1);
-            }
+            } => self.add_on(toggle, *is_fresh, rest.is_some()),
+            Event::Off { toggle, .. } => self.add_off(toggle),
             Event::Final { toggle } => self.add_toggle(1, toggle),
             Event::Part { toggle, .. } => self.add_toggle(2, toggle),
-            Event::Open { rows } => {
-                self.hold(number(rows.len())?);
-                self.block = Some(self.held);
-            }
-            Event::Close { .. } => {
-                self.held = self.block.take().ok_or(Stop::Lost)?;
-            }
+            Event::Open { rows } => self.open(rows.len()),
+            Event::Close { .. } => self.close(),
         }
-        Ok(())
+    }
+
+    // A node that has a home is toggled once, and takes no work line.
+    fn add_on(&mut self, toggle: &Toggle, is_fresh: bool, has_home: bool) {
+        if has_home {
+            return self.add_toggle(1, toggle);
+        }
+        self.add_toggle(self.times(), toggle);
+        if is_fresh {
+            self.hold(1);
+        }
+    }
+
+    fn add_off(&mut self, toggle: &Toggle) {
+        self.add_toggle(self.times(), toggle);
+        self.held = self.held.saturating_sub(1);
+    }
+
+    // A block begins, so many rows of which get lines.
+    fn open(&mut self, rows: usize) {
+        self.hold(rows);
+        self.block = Some(self.held);
+    }
+
+    // A block ends: only the lines of its rows are still held. A sweep has both ends of a block.
+    fn close(&mut self) {
+        if let Some(held) = self.block.take() {
+            self.held = held;
+        }
     }
 
     // How often a toggle is done: what a block does is undone twice, at its end and on the way
@@ -89,9 +103,10 @@ impl Count {
     }
 
     // So many work lines more are held.
-    fn hold(&mut self, lines: u32) {
+    fn hold(&mut self, lines: usize) {
         self.held = self.held.saturating_add(lines);
-        self.measures.work = self.measures.work.max(self.held);
+        let work = u32::try_from(self.held).unwrap_or(u32::MAX);
+        self.measures.work = self.measures.work.max(work);
     }
 
     // The products of a toggle, so many times, and the additions of it and of what is gathered for

@@ -1,10 +1,11 @@
 // Sweeps over a schedule, from its end.
 use crate::events::{End, Event};
 use crate::measures::Measures;
-use crate::toggles::Sweep;
+use crate::state::Sweep;
 use span_graphs::{SpanGraph, Turn};
-use span_rows::{Inserted, Row, Rows, Stop, number};
+use span_rows::{Row, Rows, Stop};
 use std::alloc::Global;
+use std::mem;
 
 /// The most additions and rows of factors that a sweep notes. Each is a gate and more.
 const MOST_NOTED: usize = 4_000_000;
@@ -26,6 +27,20 @@ pub struct Swept {
     pub measures: Measures,
 }
 
+impl Swept {
+    fn none(alloc: Global) -> Swept {
+        Swept {
+            events: Vec::new(alloc),
+            rows: 0,
+            first: Vec::new(alloc),
+            ends: Vec::new(alloc),
+            ranks: Vec::new(alloc),
+            work: 0,
+            measures: Measures::none(),
+        }
+    }
+}
+
 /// Goes over a schedule from its end, and keeps a basis of what is wanted at each moment. `forced`
 /// says of each node whether its rows are to have no other symbol. It is lost where it would add
 /// more than `most` symbols, or note too much.
@@ -36,61 +51,29 @@ pub fn sweep(
     forced: &[bool],
     most: u64,
 ) -> Result<Swept, Stop> {
+    let mut swept = Swept::none(alloc);
+    sweep_into(&mut swept, alloc, graph, turns, forced, most)?;
+    Ok(swept)
+}
+
+// Goes over a schedule from its end, and notes what it finds.
+fn sweep_into(
+    swept: &mut Swept,
+    alloc: Global,
+    graph: &SpanGraph,
+    turns: &[Turn],
+    forced: &[bool],
+    most: u64,
+) -> Result<(), Stop> {
     let rows = begun_rows(alloc, graph, forced, most)?;
-    let mut sweep = Sweep {
-        alloc,
-        graph,
-        rows,
-        block: None,
-    };
-    insert_outputs(&mut sweep)?;
-    let ends = ends_of(&mut sweep)?;
-    let (events, ranks) = back_over_all(&mut sweep, turns)?;
-    let first = first_rows(&mut sweep)?;
-    let measures = Measures::of(graph, &events, &first, &ends)?;
-    Ok(Swept {
-        events,
-        rows: sweep.rows.made(),
-        first,
-        ends,
-        ranks,
-        work: sweep.rows.work(),
-        measures,
-    })
-}
-
-// Goes back over all turns; the events, and the rank before each turn, in their order.
-fn back_over_all(sweep: &mut Sweep<'_>, turns: &[Turn]) -> Result<(Vec<Event>, Vec<u32>), Stop> {
-    let mut events = Vec::new(sweep.alloc);
-    let mut ranks = Vec::with_capacity(sweep.alloc, turns.len())?;
-    let mut noted: usize = 0;
-    for turn in turns.iter().rev() {
-        noted = noted.saturating_add(push_event(sweep, *turn, &mut events)?);
-        ranks.push(sweep.rows.rank())?;
-        if noted > MOST_NOTED {
-            return Err(Stop::Lost);
-        }
-    }
-    events.reverse();
-    ranks.reverse();
-    Ok((events, ranks))
-}
-
-// Goes back over a turn; how much its event notes, where there is one.
-fn push_event(sweep: &mut Sweep<'_>, turn: Turn, events: &mut Vec<Event>) -> Result<usize, Stop> {
-    let Some(event) = back_over(sweep, turn)? else {
-        return Ok(0);
-    };
-    let size = event.size();
-    events.push(event)?;
-    Ok(size)
+    let mut sweep = Sweep::new(alloc, graph, rows);
+    sweep.go_over(turns, swept)
 }
 
 // No rows, over the symbols of the graph.
 fn begun_rows(alloc: Global, graph: &SpanGraph, forced: &[bool], most: u64) -> Result<Rows, Stop> {
     let linear = linear_symbols(alloc, graph)?;
-    let mut alone = vec![in alloc; false; graph.inputs as usize]?;
-    alone.extend_from_slice(forced)?;
+    let alone = forced_symbols(alloc, graph, forced)?;
     Rows::new(alloc, linear, alone, most)
 }
 
@@ -103,74 +86,88 @@ fn linear_symbols(alloc: Global, graph: &SpanGraph) -> Result<Vec<bool>, Stop> {
     Ok(linear)
 }
 
-// What is wanted in the end: the nodes that have homes, and the other outputs.
-fn insert_outputs(sweep: &mut Sweep<'_>) -> Result<(), Stop> {
-    let mut done = Inserted::none(sweep.alloc);
-    insert_homes(sweep, &mut done)?;
-    insert_ends(sweep, &mut done)
+// Of each symbol, whether it is that of a node whose rows are to have no other symbol.
+fn forced_symbols(alloc: Global, graph: &SpanGraph, forced: &[bool]) -> Result<Vec<bool>, Stop> {
+    let mut alone = vec![in alloc; false; graph.inputs as usize]?;
+    alone.extend_from_slice(forced)?;
+    Ok(alone)
 }
 
-fn insert_homes(sweep: &mut Sweep<'_>, done: &mut Inserted) -> Result<(), Stop> {
-    for node in &sweep.graph.nodes {
-        if node.home.is_some() {
-            sweep.rows.insert(sweep.alloc, &node.event, done)?;
+impl Sweep<'_> {
+    // Goes back over all turns, from what is wanted in the end to the inputs.
+    fn go_over(&mut self, turns: &[Turn], swept: &mut Swept) -> Result<(), Stop> {
+        self.insert_homes()?;
+        self.insert_ends()?;
+        self.push_ends(&mut swept.ends)?;
+        self.back_over_all(turns, &mut swept.ranks)?;
+        self.take_rows(0, self.graph.inputs, &mut swept.first)?;
+        if self.block.is_some() {
+            return Err(Stop::Lost);
+        }
+        swept.first.reverse();
+        mem::swap(&mut swept.events, &mut self.events);
+        swept.events.reverse();
+        swept.rows = self.rows.made();
+        swept.work = self.rows.work();
+        swept.measures = Measures::of(&swept.events, &swept.first, &swept.ends);
+        Ok(())
+    }
+
+    // The nodes that have homes are wanted in the end.
+    fn insert_homes(&mut self) -> Result<(), Stop> {
+        for node in &self.graph.nodes {
+            if node.home.is_some() {
+                self.rows.insert(self.alloc, &node.event, &mut self.done)?;
+            }
+        }
+        Ok(())
+    }
+
+    // The other outputs are wanted in the end.
+    fn insert_ends(&mut self) -> Result<(), Stop> {
+        for output in &self.graph.outputs {
+            if !output.has_home {
+                self.rows
+                    .insert(self.alloc, &output.vector, &mut self.done)?;
+            }
+        }
+        Ok(())
+    }
+
+    // Appends the rows of the outputs without homes.
+    fn push_ends(&mut self, ends: &mut Vec<End>) -> Result<(), Stop> {
+        let mut onto: u32 = 0;
+        for output in &self.graph.outputs {
+            if !output.has_home {
+                self.push_end(onto, &output.vector, ends)?;
+            }
+            onto = onto.saturating_add(1);
+        }
+        Ok(())
+    }
+
+    // Goes back over all turns, and notes the rank before each, in their order.
+    fn back_over_all(&mut self, turns: &[Turn], ranks: &mut Vec<u32>) -> Result<(), Stop> {
+        for turn in turns.iter().rev() {
+            self.back_over(*turn)?;
+            ranks.push(self.rows.rank())?;
+            if self.noted > MOST_NOTED {
+                return Err(Stop::Lost);
+            }
+        }
+        ranks.reverse();
+        Ok(())
+    }
+
+    // Goes back over a turn.
+    fn back_over(&mut self, turn: Turn) -> Result<(), Stop> {
+        self.done.adds.clear();
+        self.done.new.clear();
+        match turn {
+            Turn::Open => self.back_over_open(),
+            Turn::Close(range) => self.back_over_close(range),
+            Turn::On(place) => self.back_over_on(place),
+            Turn::Off(place) => self.back_over_off(place),
         }
     }
-    Ok(())
-}
-
-fn insert_ends(sweep: &mut Sweep<'_>, done: &mut Inserted) -> Result<(), Stop> {
-    for output in &sweep.graph.outputs {
-        if !output.has_home {
-            sweep.rows.insert(sweep.alloc, &output.vector, done)?;
-        }
-    }
-    Ok(())
-}
-
-// The rows of the outputs without homes.
-fn ends_of(sweep: &mut Sweep<'_>) -> Result<Vec<End>, Stop> {
-    let mut ends = Vec::new(sweep.alloc);
-    for (k, output) in sweep.graph.outputs.iter().enumerate() {
-        if !output.has_home {
-            let onto = number(k)?;
-            let rows = sweep.rows.rows_of(sweep.alloc, &output.vector)?;
-            ends.push(End { onto, rows })?;
-        }
-    }
-    Ok(ends)
-}
-
-// Goes back over a turn.
-fn back_over(sweep: &mut Sweep<'_>, turn: Turn) -> Result<Option<Event>, Stop> {
-    match turn {
-        Turn::Open => sweep.back_over_open().map(Some),
-        Turn::Close(range) => sweep.back_over_close(range).map(Some),
-        Turn::On(place) => back_over_on(sweep, place),
-        Turn::Off(place) if sweep.is_part(place)? => Ok(None),
-        Turn::Off(place) => sweep.back_over_off(place),
-    }
-}
-
-// Goes back over the turn by which a node is made.
-fn back_over_on(sweep: &mut Sweep<'_>, place: u32) -> Result<Option<Event>, Stop> {
-    if sweep.is_part(place)? {
-        return sweep.back_over_part(place);
-    }
-    if sweep.graph.node(place)?.is_final {
-        return sweep.back_over_final(place);
-    }
-    sweep.back_over_on(place)
-}
-
-// The rows whose heads are inputs, from the greatest head down, with their vectors.
-fn first_rows(sweep: &mut Sweep<'_>) -> Result<Vec<(Row, Vec<u32>)>, Stop> {
-    let mut first = Vec::new(sweep.alloc);
-    for input in (0..sweep.graph.inputs).rev() {
-        if let Some(row) = sweep.rows.with_head(input)? {
-            let vector = sweep.rows.take(sweep.alloc, row)?;
-            first.push((row, vector))?;
-        }
-    }
-    Ok(first)
 }

@@ -1,81 +1,79 @@
 // The turns of a sweep, each of which goes back over one toggle.
-use crate::blocks::Block;
-use crate::events::{Event, Factors, Toggle, toggle_of};
-use span_graphs::{Node, Product, SpanGraph};
-use span_rows::{Add, Inserted, Row, Rows, Stop, at, sum_of};
-use std::alloc::Global;
-
-/// A sweep on its way from the end of a schedule: the rows that are wanted there.
-#[derive(Drop)]
-pub struct Sweep<'g> {
-    pub alloc: Global,
-    pub graph: &'g SpanGraph,
-    pub rows: Rows,
-    /// The block in which it is.
-    pub block: Option<Block>,
-}
+use crate::events::{Event, Factors};
+use crate::state::Sweep;
+use span_graphs::{Node, Product};
+use span_rows::{Add, Row, Stop, at, sum_of};
+use std::mem;
 
 impl Sweep<'_> {
-    /// Makes the rows span the factors of a node.
-    pub fn insert_factors(&mut self, node: &Node, done: &mut Inserted) -> Result<(), Stop> {
+    /// Back over the turn by which a node is made.
+    pub fn back_over_on(&mut self, place: u32) -> Result<(), Stop> {
+        let node = self.graph.node(place)?;
+        if self.is_part(place, node) {
+            return self.back_over_part(place, node);
+        }
+        if node.is_final {
+            return self.back_over_final(place, node);
+        }
+        match self.rows.with_head(self.graph.symbol(place))? {
+            Some(row) => self.back_over_row(place, node, row),
+            None => Ok(()),
+        }
+    }
+
+    // Makes the rows span the factors of a node.
+    fn insert_factors(&mut self, node: &Node) -> Result<(), Stop> {
         for product in &node.products {
-            self.rows.insert(self.alloc, &product.first, done)?;
-            self.rows.insert(self.alloc, &product.second, done)?;
+            self.rows
+                .insert(self.alloc, &product.first, &mut self.done)?;
+            self.rows
+                .insert(self.alloc, &product.second, &mut self.done)?;
         }
         Ok(())
     }
 
-    /// The factors of a node as sums of rows.
-    pub fn factors(&mut self, node: &Node) -> Result<Vec<Factors>, Stop> {
-        let mut factors = Vec::with_capacity(self.alloc, node.products.len())?;
+    // The factors of a node become those of the toggle, as sums of rows.
+    fn find_factors(&mut self, node: &Node) -> Result<(), Stop> {
         for product in &node.products {
-            factors.push(self.factors_of(product)?)?;
+            self.push_factors(product)?;
         }
-        Ok(factors)
+        Ok(())
     }
 
-    fn factors_of(&mut self, product: &Product) -> Result<Factors, Stop> {
+    fn push_factors(&mut self, product: &Product) -> Result<(), Stop> {
         let first = self.rows.rows_of(self.alloc, &product.first)?;
         let second = self.rows.rows_of(self.alloc, &product.second)?;
-        Ok(Factors { first, second })
+        self.factors
+            .push(Factors { first, second })
+            .map_err(Stop::from)
     }
 
-    /// The toggle of a node for which nothing is to be added before its factors.
-    pub fn toggle(&mut self, place: u32) -> Result<Toggle, Stop> {
-        let node = self.graph.node(place)?;
-        let mut done = Inserted::none(self.alloc);
-        self.insert_factors(node, &mut done)?;
-        let factors = self.factors(node)?;
-        Ok(toggle_of(place, Vec::new(self.alloc), factors, done))
+    /// Makes the factors of a toggle, where nothing is to be added before them.
+    pub fn make_factors(&mut self, node: &Node) -> Result<(), Stop> {
+        self.insert_factors(node)?;
+        self.find_factors(node)
     }
 
-    /// Back over the toggle of a final node.
-    pub fn back_over_final(&mut self, place: u32) -> Result<Option<Event>, Stop> {
-        let node = self.graph.node(place)?;
+    // Back over the toggle of a final node.
+    fn back_over_final(&mut self, place: u32, node: &Node) -> Result<(), Stop> {
         if node.targets.is_empty() || node.is_linear() {
-            return Ok(None);
+            return Ok(());
         }
-        let toggle = self.toggle(place)?;
-        Ok(Some(Event::Final { toggle }))
+        self.make_factors(node)?;
+        let toggle = self.toggle(place);
+        self.push(Event::Final { toggle })
     }
 
-    /// Back over the toggle of a node onto the line of the row whose head it is.
-    pub fn back_over_on(&mut self, place: u32) -> Result<Option<Event>, Stop> {
-        match self.rows.with_head(self.graph.symbol(place))? {
-            Some(row) => self.back_over_row(place, row).map(Some),
-            None => Ok(None),
-        }
-    }
-
-    fn back_over_row(&mut self, place: u32, row: Row) -> Result<Event, Stop> {
-        let node = self.graph.node(place)?;
-        let vector = self.take_off(node, row)?;
-        let mut done = Inserted::none(self.alloc);
-        let rest = self.insert_all(place, &vector, &mut done)?;
-        let (factors, rest) = self.sums(node, rest)?;
-        let (is_fresh, before) = self.place_rest(node, row, vector)?;
-        Ok(Event::On {
-            toggle: toggle_of(place, before, factors, done),
+    // Back over the toggle of a node onto the line of the row whose head it is.
+    fn back_over_row(&mut self, place: u32, node: &Node, row: Row) -> Result<(), Stop> {
+        self.held = self.take_off(node, row)?;
+        self.insert_all(place, node)?;
+        self.find_factors(node)?;
+        let rest = self.rows_of_rest(node)?;
+        let is_fresh = self.place_held(node, row)?;
+        let toggle = self.toggle(place);
+        self.push(Event::On {
+            toggle,
             row,
             is_fresh,
             rest,
@@ -88,160 +86,130 @@ impl Sweep<'_> {
         sum_of(self.alloc, &vector, &node.event).map_err(Stop::from)
     }
 
-    // Makes the rows span all that a node wants, whose line held a vector before; what is added to
-    // the line of an output behind it.
-    fn insert_all(
-        &mut self,
-        place: u32,
-        vector: &[u32],
-        done: &mut Inserted,
-    ) -> Result<Option<Vec<u32>>, Stop> {
-        let node = self.graph.node(place)?;
-        self.insert_factors(node, done)?;
-        let rest = self.insert_rest(node, done)?;
-        if self.rows.is_forced(self.graph.symbol(place)) {
-            self.rows.insert(self.alloc, node.bits(), done)?;
+    // Makes the rows span all that a node wants. What its line held is placed later.
+    fn insert_all(&mut self, place: u32, node: &Node) -> Result<(), Stop> {
+        self.insert_factors(node)?;
+        if let Some(home) = node.home {
+            self.insert_rest(node, home)?;
         }
-        self.rows.force(self.alloc, vector, &mut done.new)?;
-        Ok(rest)
+        if self.rows.is_forced(self.graph.symbol(place)) {
+            self.rows.insert(self.alloc, node.bits(), &mut self.done)?;
+        }
+        self.rows.force(self.alloc, &self.held, &mut self.done.new)
     }
 
-    // What is added to the line of an output behind the node that stays there, where there is one.
-    fn insert_rest(&mut self, node: &Node, done: &mut Inserted) -> Result<Option<Vec<u32>>, Stop> {
-        let Some(home) = node.home else {
-            return Ok(None);
-        };
+    // Makes the rows span what is added to the line of an output behind the node that stays there.
+    fn insert_rest(&mut self, node: &Node, home: u32) -> Result<(), Stop> {
         let output = at(&self.graph.outputs, home)?;
-        let rest = sum_of(self.alloc, &output.vector, &node.event)?;
-        self.rows.insert(self.alloc, &rest, done)?;
-        Ok(Some(rest))
+        self.rest = sum_of(self.alloc, &output.vector, &node.event)?;
+        self.rows.insert(self.alloc, &self.rest, &mut self.done)
     }
 
-    // The factors of a node, and what is added behind it, as sums of rows.
-    fn sums(
-        &mut self,
-        node: &Node,
-        rest: Option<Vec<u32>>,
-    ) -> Result<(Vec<Factors>, Option<Vec<Row>>), Stop> {
-        let factors = self.factors(node)?;
-        match rest {
-            Some(rest) => Ok((factors, Some(self.rows.rows_of(self.alloc, &rest)?))),
-            None => Ok((factors, None)),
+    // What is added to the line of an output behind a node that stays there, as the sum of rows.
+    fn rows_of_rest(&mut self, node: &Node) -> Result<Option<Vec<Row>>, Stop> {
+        match node.home {
+            Some(_) => self.rows.rows_of(self.alloc, &self.rest).map(Some),
+            None => Ok(None),
         }
     }
 
     // Places what a line held before the toggle of a node: nothing new where other rows sum to it,
-    // since then the line may be a new one, as that of an output has to be. The additions are in
-    // the order of the gates.
-    fn place_rest(
-        &mut self,
-        node: &Node,
-        row: Row,
-        vector: Vec<u32>,
-    ) -> Result<(bool, Vec<Add>), Stop> {
-        let reduced = self.rows.reduced(self.alloc, &vector)?;
-        if !reduced.left.is_empty() {
-            if node.home.is_some() {
-                return Err(Stop::Lost);
-            }
-            return Ok((false, self.place(row, vector)?));
+    // since then the line may be a new one; whether it is. The additions are in the order of the
+    // gates.
+    fn place_held(&mut self, node: &Node, row: Row) -> Result<bool, Stop> {
+        let reduced = self.rows.reduced(self.alloc, &self.held)?;
+        let is_fresh = reduced.left.is_empty();
+        let placed = if is_fresh {
+            self.add_rows(&reduced.rows, row)
+        } else {
+            self.place_anew(node, row)
+        };
+        placed?;
+        self.before.reverse();
+        Ok(is_fresh)
+    }
+
+    // Places what a line held as its row. The line of an output has to be a new one.
+    fn place_anew(&mut self, node: &Node, row: Row) -> Result<(), Stop> {
+        if node.home.is_some() {
+            return Err(Stop::Lost);
         }
-        let mut before = additions(self.alloc, &reduced.rows, row)?;
-        before.reverse();
-        Ok((true, before))
-    }
-
-    // Places a vector as a row; the additions in the order of the gates.
-    fn place(&mut self, row: Row, vector: Vec<u32>) -> Result<Vec<Add>, Stop> {
-        let mut before = Vec::new(self.alloc);
+        let held = mem::replace(&mut self.held, Vec::new(self.alloc));
         self.rows
-            .place(self.alloc, row, vector, false, &mut before)?;
-        before.reverse();
-        Ok(before)
+            .place(self.alloc, row, held, false, &mut self.before)
     }
 
-    /// Back over the toggle that takes a node off its line; none where the rows span it anyway.
-    pub fn back_over_off(&mut self, place: u32) -> Result<Option<Event>, Stop> {
+    // Adds some rows to one before the toggle.
+    fn add_rows(&mut self, rows: &[Row], to: Row) -> Result<(), Stop> {
+        for from in rows {
+            self.before.push(Add { from: *from, to })?;
+        }
+        Ok(())
+    }
+
+    /// Back over the toggle that takes a node off its line; none where the rows span it anyway, or
+    /// it is not undone at the end of the block.
+    pub fn back_over_off(&mut self, place: u32) -> Result<(), Stop> {
+        let node = self.graph.node(place)?;
+        if self.is_part(place, node) {
+            return Ok(());
+        }
         if self.rows.is_forced(self.graph.symbol(place)) {
-            return self.back_over_copy(place);
+            return self.back_over_copy(place, node);
         }
         self.rows.note(self.alloc);
-        match self.try_off(place)? {
-            Some(event) => {
-                self.rows.forget();
-                Ok(Some(event))
-            }
-            None => {
-                self.rows.undo()?;
-                Ok(None)
-            }
+        if self.spans_anyway(node)? {
+            return self.rows.undo();
         }
-    }
-
-    fn try_off(&mut self, place: u32) -> Result<Option<Event>, Stop> {
-        let node = self.graph.node(place)?;
-        let mut done = Inserted::none(self.alloc);
-        if self.spans_anyway(node, &mut done)? {
-            return Ok(None);
-        }
-        let factors = self.factors(node)?;
-        let (row, before) = self.place_anew(node)?;
-        let toggle = toggle_of(place, before, factors, done);
-        Ok(Some(Event::Off { toggle, row }))
+        self.rows.forget();
+        self.place_node(place, node)
     }
 
     // Makes the rows span the factors of a node, unless they span the node; whether they then do.
-    fn spans_anyway(&mut self, node: &Node, done: &mut Inserted) -> Result<bool, Stop> {
-        self.rows.force(self.alloc, &node.event, &mut done.new)?;
+    fn spans_anyway(&mut self, node: &Node) -> Result<bool, Stop> {
+        self.rows
+            .force(self.alloc, &node.event, &mut self.done.new)?;
         if self.rows.spans(self.alloc, &node.event)? {
             return Ok(true);
         }
-        self.insert_factors(node, done)?;
+        self.insert_factors(node)?;
         self.rows.spans(self.alloc, &node.event)
     }
 
     // Places the vector of a node as a new row, with the additions in the order of the gates.
-    fn place_anew(&mut self, node: &Node) -> Result<(Row, Vec<Add>), Stop> {
+    fn place_node(&mut self, place: u32, node: &Node) -> Result<(), Stop> {
+        self.find_factors(node)?;
         let row = self.rows.fresh(self.alloc)?;
         let event = Vec::from_slice(self.alloc, &node.event)?;
-        Ok((row, self.place(row, event)?))
+        self.rows
+            .place(self.alloc, row, event, false, &mut self.before)?;
+        self.before.reverse();
+        self.push_off(place, row)
     }
 
-    // The same of a node without products that has to have a line of its own.
-    fn back_over_copy(&mut self, place: u32) -> Result<Option<Event>, Stop> {
+    // Appends that a node is taken off the line of a row.
+    fn push_off(&mut self, place: u32, row: Row) -> Result<(), Stop> {
+        let toggle = self.toggle(place);
+        self.push(Event::Off { toggle, row })
+    }
+
+    // Back over the same toggle of a node without products that has to have a line of its own.
+    fn back_over_copy(&mut self, place: u32, node: &Node) -> Result<(), Stop> {
         let symbol = self.graph.symbol(place);
         if self.rows.with_head(symbol)?.is_some() {
-            return Ok(None);
+            return Ok(());
         }
-        let node = self.graph.node(place)?;
-        let mut done = Inserted::none(self.alloc);
-        self.rows.insert(self.alloc, node.bits(), &mut done)?;
-        let (row, before) = self.copy(node, symbol)?;
-        let toggle = toggle_of(place, before, Vec::new(self.alloc), done);
-        Ok(Some(Event::Off { toggle, row }))
-    }
-
-    // Puts the symbol of a node alone into a new row, with the additions of its bits.
-    fn copy(&mut self, node: &Node, symbol: u32) -> Result<(Row, Vec<Add>), Stop> {
-        let sources = self.rows.rows_of(self.alloc, node.bits())?;
-        let row = self.row_alone(symbol)?;
-        Ok((row, additions(self.alloc, &sources, row)?))
-    }
-
-    // A new row with one symbol.
-    fn row_alone(&mut self, symbol: u32) -> Result<Row, Stop> {
+        self.rows.insert(self.alloc, node.bits(), &mut self.done)?;
         let row = self.rows.fresh(self.alloc)?;
+        self.copy(node, symbol, row)?;
+        self.push_off(place, row)
+    }
+
+    // Puts the symbol of a node alone into a row, with the additions of its bits.
+    fn copy(&mut self, node: &Node, symbol: u32, row: Row) -> Result<(), Stop> {
         let alone = Vec::from_slice(self.alloc, &[symbol])?;
         self.rows.put(self.alloc, row, alone)?;
-        Ok(row)
+        let sources = self.rows.rows_of(self.alloc, node.bits())?;
+        self.add_rows(&sources, row)
     }
-}
-
-// The additions of some rows to one.
-fn additions(alloc: Global, rows: &[Row], to: Row) -> Result<Vec<Add>, Stop> {
-    let mut adds = Vec::with_capacity(alloc, rows.len())?;
-    for from in rows {
-        adds.push(Add { from: *from, to })?;
-    }
-    Ok(adds)
 }
