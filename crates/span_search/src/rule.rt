@@ -1,7 +1,7 @@
 // The rule by which a schedule is made.
 use revc_base::Memory;
 use span_graphs::SpanGraph;
-use span_rows::{Stop, is_set, set};
+use span_rows::is_set;
 use span_sweeps::Event;
 use std::alloc::Global;
 
@@ -57,41 +57,36 @@ impl Rule {
 
     /// Learns from a sweep which nodes without products took a line of their own, or more than
     /// `most` additions; whether another sweep would go otherwise.
-    pub fn learn(
-        &mut self,
-        graph: &SpanGraph,
-        events: &[Event],
-        most: usize,
-    ) -> Result<bool, Stop> {
+    pub fn learn(&mut self, graph: &SpanGraph, events: &[Event], most: usize) -> bool {
         let mut is_new = false;
         for event in events {
-            is_new |= self.learn_event(graph, event, most)?;
+            is_new |= self.learn_event(graph, event, most);
         }
-        Ok(is_new)
+        is_new
     }
 
-    fn learn_event(&mut self, graph: &SpanGraph, event: &Event, most: usize) -> Result<bool, Stop> {
+    fn learn_event(&mut self, graph: &SpanGraph, event: &Event, most: usize) -> bool {
         let Event::On {
             toggle,
             is_fresh,
             ..
         } = event
         else {
-            return Ok(false);
+            return false;
         };
         if !is_linear(graph, toggle.node) || is_set(&self.copies, toggle.node) {
-            return Ok(false);
+            return false;
         }
         if *is_fresh {
-            set(&mut self.copies, toggle.node, true)?;
-            return Ok(self.starts.len() > 1);
+            mark(&mut self.copies, toggle.node);
+            return self.starts.len() > 1;
         }
         if toggle.before.len() <= most {
-            return Ok(false);
+            return false;
         }
-        set(&mut self.copies, toggle.node, true)?;
-        set(&mut self.forced, toggle.node, true)?;
-        Ok(true)
+        mark(&mut self.copies, toggle.node);
+        mark(&mut self.forced, toggle.node);
+        true
     }
 }
 
@@ -99,5 +94,12 @@ fn is_linear(graph: &SpanGraph, node: u32) -> bool {
     match graph.nodes.get(node as usize) {
         Some(node) => node.is_linear(),
         None => false,
+    }
+}
+
+// Marks a node, if it is there.
+fn mark(marks: &mut [bool], node: u32) {
+    if let Some(mark) = marks.get_mut(node as usize) {
+        *mark = true;
     }
 }

@@ -33,6 +33,9 @@ const MOST_OVER: u32 = 64;
 /// How a plan is measured: by Toffoli gates, then by lines times gates, then by lines.
 type Cost = (u64, u64, u32);
 
+/// More than any plan costs.
+const MORE: Cost = (u64::MAX, u64::MAX, u32::MAX);
+
 // What a sweep of a rule tells.
 #[derive(Clone, Copy)]
 struct Outcome {
@@ -40,6 +43,8 @@ struct Outcome {
     fits: bool,
     work: u32,
     toffoli: u64,
+    /// Whether another one would go otherwise, by what the rule learned.
+    is_new: bool,
 }
 
 /// A sweep, with what it went over.
@@ -58,6 +63,30 @@ pub struct Sweeps {
     pub near: Option<Found>,
 }
 
+// The best sweep of its kind so far, and what it costs.
+#[derive(Drop)]
+struct Best {
+    cost: Cost,
+    found: Option<Found>,
+}
+
+impl Best {
+    fn none() -> Best {
+        Best {
+            cost: MORE,
+            found: None,
+        }
+    }
+
+    // Keeps a sweep that is better.
+    fn keep(&mut self, cost: Cost, found: Found) {
+        if cost < self.cost {
+            self.cost = cost;
+            self.found = Some(found);
+        }
+    }
+}
+
 // The best sweeps so far.
 #[derive(Drop)]
 struct Search<'g> {
@@ -67,9 +96,9 @@ struct Search<'g> {
     ports: u32,
     /// How many work lines there may be.
     room: u32,
-    best: Option<(Cost, Found)>,
+    best: Best,
     /// Of those that take some lines too many.
-    near: Option<(Cost, Found)>,
+    near: Best,
     spent: u64,
 }
 
@@ -86,8 +115,8 @@ pub fn best_sweeps(
         graph,
         ports,
         room,
-        best: None,
-        near: None,
+        best: Best::none(),
+        near: Best::none(),
         spent: 0,
     };
     // Where the work is spent, what was found until then counts.
@@ -95,34 +124,18 @@ pub fn best_sweeps(
         return Err(memory);
     }
     let Search { best, near, .. } = search;
-    let is_better = is_less(&near, &best);
+    let is_better = near.cost < best.cost;
     Ok(Sweeps {
-        best: found_of(best),
-        near: if is_better { found_of(near) } else { None },
+        best: best.found,
+        near: if is_better { near.found } else { None },
     })
-}
-
-fn found_of(swept: Option<(Cost, Found)>) -> Option<Found> {
-    let (_, found) = swept?;
-    Some(found)
-}
-
-// Whether a sweep is there that is better than another one, if that is there.
-fn is_less(some: &Option<(Cost, Found)>, others: &Option<(Cost, Found)>) -> bool {
-    match (some, others) {
-        (Some((cost, _)), Some((least, _))) => cost < least,
-        (Some(_), None) => true,
-        (None, _) => false,
-    }
 }
 
 impl Search<'_> {
     fn try_all(&mut self) -> Result<(), Stop> {
         let mut segments = Vec::new(self.alloc);
-        for most in [usize::MAX, MOST_ADDITIONS] {
-            if !self.try_most(&mut segments, most)? {
-                return Ok(());
-            }
+        if self.try_most(&mut segments, usize::MAX)? {
+            self.try_most(&mut segments, MOST_ADDITIONS)?;
         }
         Ok(())
     }
@@ -150,13 +163,13 @@ impl Search<'_> {
         for rule in rules.iter_mut() {
             rule.work = self.settle(rule, most, 0, true)?.work;
         }
-        if self.best.is_some() {
+        if self.best.found.is_some() {
             return Ok(true);
         }
         for rule in rules.iter_mut() {
             rule.least = self.clean(rule, most)?;
         }
-        if self.best.is_none() {
+        if self.best.found.is_none() {
             rules.sort_by_key(|rule| rule.least)?;
             for rule in rules.iter_mut().take(MOST_BLOCKED) {
                 self.try_blocks(rule, most, ranks)?;
@@ -168,8 +181,8 @@ impl Search<'_> {
     // A rule with all segments cleaned, and the first ones in blocks.
     fn try_blocks(&mut self, rule: &mut Rule, most: usize, ranks: &[u32]) -> Result<(), Stop> {
         let all = rule.starts.len();
-        for shape in SHAPES {
-            let blocks = blocks_of(self.alloc, &rule.starts, &shape, ranks)?;
+        for shape in &SHAPES {
+            let blocks = blocks_of(self.alloc, &rule.starts, shape, ranks)?;
             if self.may_have(&blocks) {
                 self.try_sweep(rule, most, all, &blocks)?;
             }
@@ -242,10 +255,8 @@ impl Search<'_> {
 
     // Whether the best plan has fewer Toffoli gates than these.
     fn is_beyond(&self, toffoli: u64) -> bool {
-        match &self.best {
-            Some(((least, _, _), _)) => *least < toffoli,
-            None => false,
-        }
+        let (least, _, _) = self.best.cost;
+        least < toffoli
     }
 
     // A sweep, and a second one (if `again`) where the first one told more of nodes without
@@ -257,34 +268,32 @@ impl Search<'_> {
         cleaned: usize,
         again: bool,
     ) -> Result<Outcome, Stop> {
-        let (first, is_new) = self.try_sweep(rule, most, cleaned, &[])?;
-        if !(is_new && again) {
+        let first = self.try_sweep(rule, most, cleaned, &[])?;
+        if !(first.is_new && again) {
             return Ok(first);
         }
-        let (mut second, _) = self.try_sweep(rule, most, cleaned, &[])?;
+        let mut second = self.try_sweep(rule, most, cleaned, &[])?;
         second.fits |= first.fits;
         Ok(second)
     }
 
-    // A sweep, from which the rule learns; and whether another one would go otherwise.
+    // A sweep, from which the rule learns.
     fn try_sweep(
         &mut self,
         rule: &mut Rule,
         most: usize,
         cleaned: usize,
         blocks: &[Range],
-    ) -> Result<(Outcome, bool), Stop> {
+    ) -> Result<Outcome, Stop> {
         let mut found = self.sweep(rule, cleaned, blocks)?;
         let swept = &mut found.swept;
-        let is_new = rule.learn(self.graph, &swept.events, most)?;
+        let is_new = rule.learn(self.graph, &swept.events, most);
         rule.ranks = std::mem::replace(&mut swept.ranks, Vec::new(self.alloc));
-        Ok((self.judge(found), is_new))
+        Ok(self.judge(found, is_new))
     }
 
     fn sweep(&mut self, rule: &Rule, cleaned: usize, blocks: &[Range]) -> Result<Found, Stop> {
-        let Some(left) = MOST_WORK.checked_sub(self.spent) else {
-            return Err(Stop::Lost);
-        };
+        let left = MOST_WORK.checked_sub(self.spent).ok_or(Stop::Lost)?;
         let turns = schedule(
             self.alloc,
             self.graph,
@@ -293,12 +302,17 @@ impl Search<'_> {
             &rule.copies,
             blocks,
         )?;
-        let most = left.min(MOST_SWEPT);
-        let swept = sweep(self.alloc, self.graph, &turns, &rule.forced, most)?;
+        let forced = Vec::from_slice(self.alloc, &rule.forced)?;
+        let swept = sweep(
+            self.alloc,
+            self.graph,
+            &turns,
+            &forced,
+            left.min(MOST_SWEPT),
+        )?;
         let passing = (turns.len() as u64).saturating_mul(TURN);
         let work = swept.work.saturating_add(passing);
         self.spent = self.spent.saturating_add(work);
-        let forced = Vec::from_slice(self.alloc, &rule.forced)?;
         Ok(Found {
             swept,
             turns,
@@ -307,7 +321,7 @@ impl Search<'_> {
     }
 
     // Keeps a sweep that is better than the best so far and fits, or takes some lines too many.
-    fn judge(&mut self, found: Found) -> Outcome {
+    fn judge(&mut self, found: Found, is_new: bool) -> Outcome {
         let measures = found.swept.measures;
         let lines = self.ports.saturating_add(measures.work);
         let gates = measures.toffoli.saturating_add(measures.cx);
@@ -317,16 +331,16 @@ impl Search<'_> {
             lines,
         );
         let fits = measures.work <= self.room;
-        let swept = Some((cost, found));
-        if fits && is_less(&swept, &self.best) {
-            self.best = swept;
-        } else if is_near(measures.work, self.room) && is_less(&swept, &self.near) {
-            self.near = swept;
+        if fits {
+            self.best.keep(cost, found);
+        } else if is_near(measures.work, self.room) {
+            self.near.keep(cost, found);
         }
         Outcome {
             fits,
             work: measures.work,
             toffoli: measures.toffoli,
+            is_new,
         }
     }
 }
@@ -337,9 +351,9 @@ fn is_near(lines: u32, room: u32) -> bool {
 }
 
 // Appends a rule of several segments, where it is not the last one again.
-fn push_new(segments: &mut Vec<Vec<u32>>, starts: Vec<u32>) -> Result<(), Memory> {
-    if starts.len() > 1 && segments.last() != Some(&starts) {
-        segments.push(starts)?;
+fn push_new(segments: &mut Vec<Vec<u32>>, starts: Vec<u32>) -> Result<(), Stop> {
+    if starts.len() <= 1 || segments.last() == Some(&starts) {
+        return Ok(());
     }
-    Ok(())
+    segments.push(starts).map_err(Stop::from)
 }
