@@ -4,6 +4,7 @@ use revc_base::Memory;
 use span_rows::Stop;
 use std::alloc::Global;
 use std::collections::BTreeSet;
+use std::mem;
 
 /// Work lines: those that are free, and how many there are.
 #[derive(Drop)]
@@ -13,6 +14,9 @@ pub struct WorkLines {
     behind: u32,
     /// The line behind those that may be used.
     limit: u32,
+    /// Both as they were when they were saved.
+    saved_free: BTreeSet<u32>,
+    saved_behind: u32,
 }
 
 impl WorkLines {
@@ -22,6 +26,8 @@ impl WorkLines {
             free: BTreeSet::new(alloc),
             behind: first,
             limit,
+            saved_free: BTreeSet::new(alloc),
+            saved_behind: first,
         }
     }
 
@@ -43,28 +49,21 @@ impl WorkLines {
         Ok(line)
     }
 
-    /// The free lines, and the line behind those that were ever out: to be set again by `reset`.
-    pub fn saved(&self, alloc: Global) -> Result<SavedLines, Memory> {
-        let mut free = Vec::new(alloc);
-        for line in &self.free {
-            free.push(*line)?;
-        }
-        Ok(SavedLines {
-            free,
-            behind: self.behind,
-        })
+    /// Saves which lines are free, and which were ever out.
+    pub fn save(&mut self) -> Result<(), Stop> {
+        self.saved_behind = self.behind;
+        self.saved_free = self.free.clone()?;
+        Ok(())
     }
 
-    /// The lines that were free are so again, and those that were never out then are free.
-    pub fn reset(&mut self, saved: &SavedLines) -> Result<(), Stop> {
-        self.free.clear();
-        for line in &saved.free {
-            self.free.insert(*line)?;
-        }
-        for line in saved.behind..self.behind {
-            self.free.insert(line)?;
-        }
-        Ok(())
+    /// The lines that were free when they were saved are so again, and those that were never out
+    /// then are free. Nothing is saved any more.
+    pub fn reset(&mut self) -> Result<(), Stop> {
+        mem::swap(&mut self.free, &mut self.saved_free);
+        self.saved_free.clear();
+        self.free
+            .extend(self.saved_behind..self.behind)
+            .map_err(Stop::from)
     }
 
     /// A line is free again.
@@ -72,13 +71,6 @@ impl WorkLines {
         self.free.insert(line)?;
         Ok(())
     }
-}
-
-/// Which work lines were free at a moment.
-#[derive(Drop)]
-pub struct SavedLines {
-    free: Vec<u32>,
-    behind: u32,
 }
 
 /// The lines of rows.
@@ -105,15 +97,5 @@ impl RowLines {
     /// The line of a row.
     pub fn line(&self, row: u32) -> u32 {
         self.lines.get(row as usize).copied().unwrap_or(NOWHERE)
-    }
-
-    /// The lines of rows, rising.
-    pub fn all(&self, alloc: Global, rows: &[u32]) -> Result<Vec<u32>, Memory> {
-        let mut lines = Vec::new(alloc);
-        for row in rows {
-            lines.push(self.line(*row))?;
-        }
-        lines.sort_unstable();
-        Ok(lines)
     }
 }

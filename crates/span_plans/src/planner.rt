@@ -4,15 +4,16 @@ ghost use Rattle.circuit_plans.specs.declared.roles.Start.TheVariants.{Zero};
 ghost use Rattle.held_nodes.specs.Plans.{IsNarrowPlan};
 
 use crate::replaying::{Replayed, replay_of};
-use crate::thinning::thinned;
+use crate::thinning::{is_no_worse, lone_copies, turns_without};
 use circuit_plans::{Budget, Planned};
 use line_moves::{script, shortened};
 use line_states::{Step, follow};
 use revc_base::Memory;
-use span_graphs::SpanGraph;
+use span_graphs::{SpanGraph, Turn};
 use span_lowering::lowered;
 use span_rows::{Stop, number};
-use span_search::{Found, Sweeps, best_sweeps};
+use span_search::{Found, MOST_SWEPT, Sweeps, best_sweeps};
+use span_sweeps::{Swept, sweep};
 use std::alloc::Global;
 use sum_graph::SumGraph;
 
@@ -44,50 +45,86 @@ fn replayed(alloc: Global, sums: &SumGraph, ports: u32, budget: &Budget) -> Resu
     let Some(room) = budget.lines().checked_sub(taken) else {
         return Err(Stop::Lost);
     };
-    let limit = ports.saturating_add(room);
     let graph = lowered(alloc, sums)?;
-    let Sweeps { best, near } = best_sweeps(alloc, &graph, taken, room)?;
-    if let Some(replayed) = replayed_thin(alloc, sums, &graph, &near, ports, limit)? {
-        return Ok(replayed);
-    }
-    if let Some(replayed) = replayed_thin(alloc, sums, &graph, &best, ports, limit)? {
-        return Ok(replayed);
-    }
-    match best {
-        Some(found) => replay_of(alloc, &graph, &found.swept, ports, limit),
-        None => Err(Stop::Lost),
-    }
-}
-
-// The moves of a sweep with nodes written out, where it is no worse so, and fits.
-fn replayed_thin(
-    alloc: Global,
-    sums: &SumGraph,
-    graph: &SpanGraph,
-    found: &Option<Found>,
-    ports: u32,
-    limit: u32,
-) -> Result<Option<Replayed>, Memory> {
-    let Some(found) = found else {
-        return Ok(None);
+    let sweeps = best_sweeps(alloc, &graph, taken, room)?;
+    let replays = Replays {
+        alloc,
+        sums,
+        graph: &graph,
+        first: ports,
+        limit: ports.saturating_add(room),
     };
-    match thin_moves(alloc, sums, graph, found, ports, limit) {
-        Ok(replayed) => Ok(Some(replayed)),
-        Err(Stop::Lost) => Ok(None),
-        Err(Stop::Memory(memory)) => Err(memory),
-    }
+    replays.best(&sweeps)
 }
 
-fn thin_moves(
+// How sweeps of a graph are replayed: with work lines from `first` on, up to `limit`.
+#[derive(Clone, Copy)]
+struct Replays<'g> {
     alloc: Global,
-    sums: &SumGraph,
-    graph: &SpanGraph,
-    found: &Found,
-    ports: u32,
+    sums: &'g SumGraph,
+    graph: &'g SpanGraph,
+    first: u32,
     limit: u32,
-) -> Result<Replayed, Stop> {
-    match thinned(alloc, sums, graph, found)? {
-        Some((thin, swept)) => replay_of(alloc, &thin, &swept, ports, limit),
-        None => Err(Stop::Lost),
+}
+
+impl Replays<'_> {
+    // The moves of the best sweep, which are lost where no sweep fits.
+    fn best(&self, sweeps: &Sweeps) -> Result<Replayed, Stop> {
+        match self.thin(&sweeps.near) {
+            Err(Stop::Lost) => self.fitting(&sweeps.best),
+            done => done,
+        }
+    }
+
+    // The moves of a sweep that fits, with nodes written out where that is no worse.
+    fn fitting(&self, found: &Option<Found>) -> Result<Replayed, Stop> {
+        match self.thin(found) {
+            Err(Stop::Lost) => self.whole(found),
+            done => done,
+        }
+    }
+
+    // The moves of a sweep as it is.
+    fn whole(&self, found: &Option<Found>) -> Result<Replayed, Stop> {
+        match found {
+            Some(found) => self.replay(self.graph, &found.swept),
+            None => Err(Stop::Lost),
+        }
+    }
+
+    // The moves of a sweep with nodes written out, which are lost where it is worse so, or does not
+    // fit.
+    fn thin(&self, found: &Option<Found>) -> Result<Replayed, Stop> {
+        let Some(found) = found else {
+            return Err(Stop::Lost);
+        };
+        let marks = lone_copies(self.alloc, self.graph, &found.swept.events)?;
+        if !marks.contains(&true) {
+            return Err(Stop::Lost);
+        }
+        let turns = turns_without(self.alloc, &found.turns, &marks)?;
+        let mut graph = lowered(self.alloc, self.sums)?;
+        self.written_out(&mut graph, found, &marks, &turns)
+    }
+
+    // The same, with the marked nodes written out in the graph, and these turns.
+    fn written_out(
+        &self,
+        graph: &mut SpanGraph,
+        found: &Found,
+        marks: &[bool],
+        turns: &[Turn],
+    ) -> Result<Replayed, Stop> {
+        graph.write_out(self.alloc, marks)?;
+        let swept = sweep(self.alloc, graph, turns, &found.forced, MOST_SWEPT)?;
+        if is_no_worse(swept.measures, found.swept.measures) {
+            self.replay(graph, &swept)
+        } else {
+            Err(Stop::Lost)
+        }
+    }
+
+    fn replay(&self, graph: &SpanGraph, swept: &Swept) -> Result<Replayed, Stop> {
+        replay_of(self.alloc, graph, swept, self.first, self.limit)
     }
 }
