@@ -1,9 +1,11 @@
-// Calls whose devices fail at each point in turn, and files that are cut.
-use crate::rows::{Left, PRODUCT, PRODUCT_FILE, left_by, left_of, words_of};
+// Calls whose devices fail at each point in turn.
+use crate::calls::{Left, PRODUCT, PRODUCT_FILE, left_by, words_of};
 use revc_base::Memory;
 use revc_driver::revc;
-use revc_io::{MemorySink, MemorySource};
+use revc_io::{MemorySink, MemorySource, StdSource};
 use std::alloc::Global;
+use std::io;
+use std::io::{Error, ErrorKind, Read};
 use std::process::Abort;
 use std::test::Fail;
 
@@ -237,34 +239,35 @@ fn each_room_may_be_too_small(rt: HostRuntime) -> Result<(), Fail> {
     Ok(())
 }
 
-// How many prefixes of a file mean a circuit; all others are refused, with status 8.
-fn count_prefixes(rt: &impl Abort, alloc: Global, words: &str, file: &[u8]) -> Result<u64, Memory> {
-    let mut count = 0_u64;
-    for len in 0..=file.len() {
-        let status = left_of(alloc, words, &file[..len])?.status;
-        assert!(rt; status == 0 || status == 8, "{words}: {len} bytes");
-        count = count.wrapping_add(u64::from(status == 0));
-    }
-    Ok(count)
+// A reader that gives a part of the text and then fails.
+#[derive(Drop)]
+struct Torn {
+    given: bool,
 }
 
-const QASM_FILE: &[u8] = b"OPENQASM 2.0;
-include \"qelib1.inc\";
-qreg inp[2];
-qreg outp[1];
-qreg work[1];
-ccx inp[0],inp[1],work[0];
-cx work[0],outp[0];
-ccx inp[0],inp[1],work[0];
-";
+impl Read for Torn {
+    fn read(&mut self, buf: &mut [u8]) -> io::Result<usize> {
+        if self.given || buf.is_empty() {
+            return Err(Error::from(ErrorKind::Other));
+        }
+        self.given = true;
+        buf[0] = b'm';
+        Ok(1)
+    }
+}
 
-// A `.real` file is whole with its last word; an OpenQASM file may end after any of the registers
-// and gates.
+// What a call leaves whose source fails.
+fn left_torn(alloc: Global) -> Result<Left, Memory> {
+    let words = words_of(alloc, "compile")?;
+    let mut source = StdSource::new(Torn { given: false });
+    let mut out = MemorySink::new(alloc, 1000, Vec::new(alloc), 100)?;
+    let mut err = MemorySink::new(alloc, 100, Vec::new(alloc), 4)?;
+    let status = revc(alloc, &words, &mut source, &mut out, &mut err);
+    left_by(alloc, status, out.bytes(), err.bytes())
+}
+
 #[test]
-fn files_that_are_cut_are_refused(rt: HostRuntime) -> Result<(), Fail> {
-    let alloc = rt.alloc();
-    assert!(rt; count_prefixes(&rt, alloc, "stat", PRODUCT_FILE)? == 2);
-    assert!(rt; left_of(alloc, "stat", &PRODUCT_FILE[..162])?.status == 0);
-    assert!(rt; count_prefixes(&rt, alloc, "stat --from qasm", QASM_FILE)? == 12);
+fn a_fault_of_the_source_ends_the_reading(rt: HostRuntime) -> Result<(), Fail> {
+    assert!(rt; left_torn(rt.alloc())?.is(9, b"revc: read fault\n"));
     Ok(())
 }
