@@ -1,6 +1,6 @@
 -- The weights of gates, and the counts and the depth of a list of gates.
 use Rattle.std.specs.Prelude.{ℕ, ◌+◌, ◌-◌, ◌*◌, Bool, true, false, not, ◌&&◌, ◌==◌, nat_le, slice_index, max, if◌then◌else◌, List, [], ◌∷◌, length, reverse}
-use Rattle.std.specs.Prelude.{count_by}
+use Rattle.std.specs.Prelude.{count_by, sum_by}
 use Rattle.std.specs.List.{list_any}
 use Rattle.mct_circuit.specs.declared.gate.Control.{Control}
 use Rattle.mct_circuit.specs.declared.gate.Op.{Op}
@@ -25,6 +25,10 @@ negative_controls controls = count_by (λ (control : Control). not control.posit
 -- a negative control is a positive one between two flips of its line
 abbrev pub weight_of : GateView → ℕ
 weight_of gate = op_weight gate.op (length gate.controls) + 2 * negative_controls gate.controls
+
+-- the weight of gates together
+abbrev pub weight_in : List GateView → ℕ
+weight_in gates = sum_by weight_of gates
 
 -- ---- counts
 

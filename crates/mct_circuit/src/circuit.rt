@@ -61,6 +61,19 @@ impl Circuit {
         }
     }
 
+    /// The circuit of these gates on its lines, which are within its limit. It takes no memory.
+    pub fn from_gates(lines: u32, limit: u64, gates: Vec<Gate>) -> Circuit
+        requires on { AreGatesOn lines gates.items }
+        requires limited { length gates.items ≤ limit }
+        ensures { result ≡ record { lines = lines; limit = limit; gates = gates.items } }
+    {
+        Circuit {
+            lines,
+            limit,
+            gates,
+        }
+    }
+
     /// Appends a gate on lines of the circuit. `Full` comes exactly where the circuit holds `limit`
     /// gates. After a refusal the circuit is unchanged.
     pub fn push(&mut self, gate: Gate) -> Result<(), GateFault>
