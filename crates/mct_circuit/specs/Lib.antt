@@ -1,3 +1,4 @@
 pub mod Gates
 pub mod Sizes
 pub mod Laws
+pub mod inside

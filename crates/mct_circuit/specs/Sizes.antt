@@ -59,21 +59,36 @@ has_line line lines = list_any (λ other. line == other) lines
 abbrev pub share_a_line : List ℕ → List ℕ → Bool
 share_a_line these those = list_any (λ line. has_line line those) these
 
--- the depth of a gate behind others: one more than the greatest depth of an earlier one that shares
--- a line with it, or 1
-abbrev pub gate_depth : GateView → List GateView → ℕ
-gate_depth gate [] = 1
-gate_depth gate (other ∷ earlier) =
-    max (if share_a_line (lines_of gate) (lines_of other) then 1 + gate_depth other earlier else 0)
-    (gate_depth gate earlier)
+-- the depth of a gate behind others, each of which counts as it weighs: its own weight, and the
+-- greatest depth of an earlier one that shares a line with it, if there is one
+abbrev pub gate_depth : (GateView → ℕ) → GateView → List GateView → ℕ
+gate_depth weigh gate [] = weigh gate
+gate_depth weigh gate (other ∷ earlier) =
+    max
+    (if share_a_line (lines_of gate) (lines_of other) then weigh gate + gate_depth weigh other earlier
+    else 0)
+    (gate_depth weigh gate earlier)
 
-abbrev pub greatest_depth : List GateView → ℕ
-greatest_depth [] = 0
-greatest_depth (gate ∷ earlier) = max (gate_depth gate earlier) (greatest_depth earlier)
+abbrev pub greatest_depth : (GateView → ℕ) → List GateView → ℕ
+greatest_depth weigh [] = 0
+greatest_depth weigh (gate ∷ earlier) =
+    max (gate_depth weigh gate earlier) (greatest_depth weigh earlier)
 
--- the greatest depth of a gate, or 0
+-- the greatest depth of a gate by weights, or 0
+abbrev pub depth_by : (GateView → ℕ) → List GateView → ℕ
+depth_by weigh gates = greatest_depth weigh (reverse gates)
+
+-- the depth, in which each gate counts 1
 abbrev pub depth_of : List GateView → ℕ
-depth_of gates = greatest_depth (reverse gates)
+depth_of gates = depth_by (λ gate. 1) gates
+
+-- a flip under two controls counts 1, another gate 0
+abbrev pub toffoli_weight : GateView → ℕ
+toffoli_weight gate = if is_flip_under 2 gate then 1 else 0
+
+-- the Toffoli depth: the greatest number of Toffoli gates in a chain of gates that share lines
+abbrev pub toffoli_depth_of : List GateView → ℕ
+toffoli_depth_of gates = depth_by toffoli_weight gates
 
 -- the greatest number at one of the lines, or 0
 abbrev pub greatest_at : List ℕ → List ℕ → ℕ

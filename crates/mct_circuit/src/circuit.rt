@@ -4,13 +4,14 @@ ghost use Rattle.std.specs.Prelude.{slice_get, Some, OnOk, OnErr, IfOk, IsErrOf,
 ghost use Rattle.std.specs.Prelude.{◌==◌};
 ghost use Rattle.std.specs.List.{AllByRecursion};
 ghost use Rattle.mct_circuit.specs.declared.circuit.GateFault.TheVariants as faults;
-ghost use Rattle.mct_circuit.specs.Sizes.{depth_of};
+ghost use Rattle.mct_circuit.specs.Sizes.{depth_by, depth_of, toffoli_depth_of};
+ghost use Rattle.mct_circuit.specs.inside.Counting.{weight_for};
 ghost use Rattle.mct_circuit.specs.Gates.{AreGatesOn, AreNarrow, lines_of, flip_of, line_map};
 ghost use Rattle.mct_circuit.specs.Gates.{CircuitView};
 ghost use Rattle.list_facts.specs.Lists.{AreDifferent};
 
 use crate::Gate;
-use crate::depth::{greatest_on, set_all};
+use crate::depth::{Counting, greatest_on, set_all, weight_for};
 use revc_base::{Memory, WantOfMemory};
 use std::alloc::Global;
 use std::marker::Model;
@@ -169,11 +170,24 @@ impl Circuit {
     pub fn depth(&self) -> Result<u64, Memory>
         ensures { IfOk result (λ depth. depth ≡ depth_of self.now.gates) }
     {
+        self.depth_in(Counting::EachGate)
+    }
+
+    /// The Toffoli depth: as `depth`, where a flip under two controls counts 1 and another gate 0.
+    pub fn toffoli_depth(&self) -> Result<u64, Memory>
+        ensures { IfOk result (λ depth. depth ≡ toffoli_depth_of self.now.gates) }
+    {
+        self.depth_in(Counting::Toffolis)
+    }
+
+    fn depth_in(&self, counting: Counting) -> Result<u64, Memory>
+        ensures { IfOk result (λ depth. depth ≡ depth_by (weight_for counting) self.now.gates) }
+    {
         // For each line the greatest depth of a gate on it so far.
         let mut depths = vec![in *self.gates.allocator(); 0; self.lines as usize]?;
         let mut greatest = 0;
         for gate in &self.gates {
-            let depth = 1 + greatest_on(gate, &depths);
+            let depth = weight_for(counting, gate) + greatest_on(gate, &depths);
             set_all(gate, &mut depths, depth);
             greatest = depth.max(greatest);
         }

@@ -1,10 +1,29 @@
 // The greatest depth of a gate on each line, as a circuit grows.
-ghost use Rattle.std.specs.Prelude.{◌≡◌, ℕ, ◌<◌, length, slice_index, if◌then◌else◌, map};
+ghost use Rattle.std.specs.Prelude.{◌≡◌, ℕ, ◌<◌, ◌≤◌, length, slice_index, if◌then◌else◌, map};
 ghost use Rattle.std.specs.List.{AllByRecursion};
 ghost use Rattle.mct_circuit.specs.Gates.{lines_of};
 ghost use Rattle.mct_circuit.specs.Sizes.{has_line, greatest_at};
+ghost use Rattle.mct_circuit.specs.inside.Counting.{weight_for};
 
 use crate::{Control, Gate, Op};
+
+// Which gates count in a depth, each as one.
+#[derive(Clone, Copy)]
+pub enum Counting {
+    EachGate,
+    Toffolis,
+}
+
+// What a gate adds to the depth.
+pub fn weight_for(counting: Counting, gate: &Gate) -> u64
+    ensures weight { result ≡ weight_for counting gate.now }
+    ensures one { result ≤ 1 }
+{
+    match counting {
+        Counting::EachGate => 1,
+        Counting::Toffolis => u64::from(gate.is_flip_under(2)),
+    }
+}
 
 // The greatest number at a line of the gate.
 pub fn greatest_on(gate: &Gate, depths: &[u64]) -> u64

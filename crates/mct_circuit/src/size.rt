@@ -36,7 +36,7 @@ impl Gate {
         flips + 2 * negative
     }
 
-    fn is_flip_under(&self, count: usize) -> bool
+    pub(crate) fn is_flip_under(&self, count: usize) -> bool
         ensures { result ≡ is_flip_under count self.now }
     {
         !self.op().is_swap() && self.controls().len() == count
