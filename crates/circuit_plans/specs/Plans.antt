@@ -1,13 +1,15 @@
 -- Budgets and plans as contracts see them, the roles of a plan's lines, and clean circuits.
-use Rattle.std.specs.Prelude.{◌≡◌, ℕ, ◌+◌, ◌-◌, Bool, nat_lt, if◌then◌else◌, List, ◌++◌, length, ⊤}
+use Rattle.std.specs.Prelude.{◌≡◌, ℕ, ◌+◌, ◌-◌, ◌*◌, ◌≤◌, Bool, nat_lt, if◌then◌else◌, List, ◌++◌, length, ⊤}
 use Rattle.std.specs.Bool.{xor}
 use Rattle.std.specs.Simd.Lanes.{zip2}
 use Rattle.list_facts.specs.Bits.{zeros}
-use Rattle.mct_circuit.specs.Gates.{GateView, CircuitView, AreGatesOn, line_map}
+use Rattle.mct_circuit.specs.Gates.{GateView, CircuitView, AreGatesOn, AreNarrow, line_map}
+use Rattle.mct_circuit.specs.Sizes.{counts_of, weight_in}
 use Rattle.circuit_plans.specs.declared.choice.How.{How}
 use Rattle.circuit_plans.specs.declared.choice.How.TheVariants.{Auto, Compact, Eager, Lean, Pebble}
 use Rattle.circuit_plans.specs.declared.roles.Roles.{Roles}
 use Rattle.circuit_plans.specs.declared.roles.Role.{Role}
+use Rattle.circuit_plans.specs.declared.size.Size.{Size}
 use Rattle.circuit_plans.specs.declared.roles.Role.TheVariants.{Input, Output, Work, Borrowed}
 use Rattle.circuit_plans.specs.declared.roles.Start.{Start}
 use Rattle.circuit_plans.specs.declared.roles.Start.TheVariants.{Any, Zero}
@@ -64,6 +66,21 @@ roles_of laid =
       work = laid.work;
       borrowed = laid.borrowed;
     }
+
+-- the roles of a plan's lines before its gates are split: none is borrowed
+abbrev pub roles_of_plan : PlannedView → Roles
+roles_of_plan p =
+    record { inputs = p.inputs; outputs = p.outputs; work = p.work; borrowed = 0 }
+
+-- ---- sizes
+
+-- the number of Toffoli gates, lines times gates, and the number of lines
+abbrev pub size_of : CircuitView → Size
+size_of c = record {
+  toffoli = (counts_of c.gates).ccx;
+  area = c.lines * length c.gates;
+  lines = c.lines;
+}
 
 -- ---- clean circuits
 
@@ -126,6 +143,38 @@ AddedOutputsArePut =
     (start : Start) (roles : Roles) (gates : List GateView) (value : List Bool → List Bool)
     → AddsOutputs start roles gates value
     → MapsCleanly roles gates value
+
+-- ---- plans within a budget
+
+-- the plan has n inputs and o outputs, and its other lines are work lines
+pub record HasPorts (n o : ℕ) (p : PlannedView) : Type 0 where
+  pub inputs : p.inputs ≡ n
+  pub outputs : p.outputs ≡ o
+  pub lines : p.circuit.lines ≡ n + o + p.work
+
+-- its lines, with the borrowed ones, and the weights of its gates are within the budget
+pub record IsInBudget (b : BudgetView) (p : PlannedView) : Type 0 where
+  pub lines : p.circuit.lines + b.borrow ≤ b.lines
+  pub gates : weight_in p.circuit.gates ≤ b.gates
+
+-- A plan of narrow gates within a budget: it has n inputs and o outputs, and adds this value of its
+-- input to whatever the output lines may hold.
+pub record IsNarrowPlan (start : Start) (n o : ℕ) (value : List Bool → List Bool)
+    (b : BudgetView) (p : PlannedView) : Type 0 where
+  pub ports : HasPorts n o p
+  pub clean : AddsOutputs start (roles_of_plan p) p.circuit.gates value
+  pub within : IsInBudget b p
+  pub narrow : AreNarrow p.circuit.gates
+
+-- the budget has a line for each of so many inputs and outputs, and for each borrowed bit
+abbrev pub HasPortLines : ℕ → BudgetView → Type 0
+HasPortLines ports b = ports + b.borrow ≤ b.lines
+
+-- how many lines a refused plan wants: one for each input, output and borrowed bit where that
+-- passes the budget, and otherwise one more than the budget has
+abbrev pub wanted_lines : ℕ → BudgetView → ℕ
+wanted_lines ports b =
+    if nat_lt b.lines (ports + b.borrow) then ports + b.borrow else b.lines + 1
 
 -- ---- borrowed lines
 

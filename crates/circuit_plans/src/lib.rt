@@ -7,6 +7,7 @@ mod law;
 mod narrow;
 mod plan;
 mod roles;
+mod size;
 
 pub use choice::How;
 pub use law::{added_outputs_are_put, clean_circuits_borrow};
@@ -15,3 +16,4 @@ pub use plan::{
     Budget, Laid, MOST_BORROWED, MOST_GATES, MOST_LINES, PlanFault, Planned, limits_are,
 };
 pub use roles::{Role, Roles, Start};
+pub use size::Size;

@@ -1,3 +1,0 @@
-pub mod FreeLineLemmas
-pub mod OutLineLemmas
-pub mod PeakLemmas

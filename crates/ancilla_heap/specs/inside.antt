@@ -1,2 +1,0 @@
--- What only the invariant and proofs cite.
-pub mod Heaps
