@@ -6,7 +6,7 @@ use Rattle.arith_templates.specs.Texts.{text_of}
 use Rattle.arith_templates.specs.declared.kind.Kind.TheVariants.{Add}
 use Rattle.command_answers.specs.Outcomes.{Promise, budget_promise}
 use Rattle.command_answers.specs.declared.fault.Fault.{Fault}
-use Rattle.circuit_plans.specs.declared.choice.How.TheVariants.{Auto}
+use Rattle.circuit_plans.specs.declared.choice.Plan.TheVariants.{Auto}
 use Rattle.circuit_plans.specs.declared.roles.Roles.{Roles}
 use Rattle.circuit_plans.specs.declared.roles.Start.TheVariants.{Zero}
 use Rattle.circuit_plans.specs.Plans.{AddsOutput, lines_in}

@@ -5,8 +5,8 @@ use Rattle.std.specs.Simd.Lanes.{zip2}
 use Rattle.list_facts.specs.Bits.{zeros}
 use Rattle.mct_circuit.specs.Gates.{GateView, CircuitView, AreGatesOn, AreNarrow, line_map}
 use Rattle.mct_circuit.specs.Sizes.{counts_of, weight_in}
-use Rattle.circuit_plans.specs.declared.choice.How.{How}
-use Rattle.circuit_plans.specs.declared.choice.How.TheVariants.{Auto, Compact, Eager, Lean, Pebble}
+use Rattle.circuit_plans.specs.declared.choice.Plan.{Plan}
+use Rattle.circuit_plans.specs.declared.choice.Plan.TheVariants.{Auto, Compact, Eager, Lean, Pebble}
 use Rattle.circuit_plans.specs.declared.roles.Roles.{Roles}
 use Rattle.circuit_plans.specs.declared.roles.Role.{Role}
 use Rattle.circuit_plans.specs.declared.size.Size.{Size}
@@ -90,7 +90,7 @@ MayHold Any held = ⊤
 MayHold Zero held = held ≡ zeros (length held)
 
 -- what they may hold under each plan
-abbrev pub start_of : How → Start
+abbrev pub start_of : Plan → Start
 start_of Auto = Any
 start_of Compact = Zero
 start_of Eager = Any

@@ -2,7 +2,7 @@
 
 /// Which plans are tried, in which order.
 #[derive(Clone, Copy, PartialEq, Eq)]
-pub enum How {
+pub enum Plan {
     /// The eager plan, and then pebbling.
     Auto,
     /// Over the lean graph, the best of the plan of `Lean` and of those that planners find: the one

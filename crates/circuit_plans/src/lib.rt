@@ -9,7 +9,7 @@ mod plan;
 mod roles;
 mod size;
 
-pub use choice::How;
+pub use choice::Plan;
 pub use law::{added_outputs_are_put, clean_circuits_borrow};
 pub use narrow::Narrow;
 pub use plan::{

@@ -3,7 +3,7 @@ use Rattle.std.proofs.Common.{◌≡◌, ◌≢◌, ℕ, ◌<◌, ◌≤◌, tru
 use Rattle.std.specs.Prelude.{◌==◌, if◌then◌else◌, nat_lt, IfErr, IfOk, Result}
 use Rattle.std.proofs.lemmas.Bool.{cases_Bool, eqb-true, ltb-true}
 use Rattle.std.proofs.lemmas.Result.{IfOk-weaker}
-use Rattle.circuit_plans.specs.declared.choice.How.TheVariants.{Compact, Lean}
+use Rattle.circuit_plans.specs.declared.choice.Plan.TheVariants.{Compact, Lean}
 use Rattle.circuit_plans.specs.declared.plan.PlanFault.{PlanFault}
 use Rattle.circuit_plans.specs.declared.plan.PlanFault.TheVariants.{Lines, Gates, Memory}
 use Rattle.circuit_plans.specs.declared.roles.Start.TheVariants.{Any, Zero}

@@ -9,7 +9,7 @@ use Rattle.std.proofs.lemmas.Result.{IfOk-weaker}
 use Rattle.bennett_pebbling.specs.Pebbling as sums
 use Rattle.bit_sums.specs.Products.{IsProduct}
 use Rattle.bit_sums.specs.Sums.{ProductView, SumView, weight_of}
-use Rattle.circuit_plans.specs.declared.choice.How.TheVariants.{Lean}
+use Rattle.circuit_plans.specs.declared.choice.Plan.TheVariants.{Lean}
 use Rattle.circuit_plans.specs.declared.plan.PlanFault.{PlanFault}
 use Rattle.circuit_plans.specs.declared.plan.PlanFault.TheVariants.{Lines, Gates, Memory}
 use Rattle.circuit_plans.specs.declared.roles.Start.{Start}

@@ -15,8 +15,8 @@ use Rattle.circuit_plans.specs.declared.plan.PlanFault.TheVariants.{Lines, Gates
 use Rattle.circuit_plans.specs.Plans.{BudgetView, LaidView}
 use Rattle.eager_cleanup.specs.Eager.{IsEagerFault, ports_of}
 use Rattle.revs_tape.specs.Levels.{IsLevels}
-use Rattle.circuit_plans.specs.declared.choice.How.TheVariants.{Auto, Compact, Eager, Lean, Pebble}
-use Rattle.circuit_plans.specs.declared.choice.How.{How}
+use Rattle.circuit_plans.specs.declared.choice.Plan.TheVariants.{Auto, Compact, Eager, Lean, Pebble}
+use Rattle.circuit_plans.specs.declared.choice.Plan.{Plan}
 use Rattle.held_nodes.specs.Plans.{wanted_lines}
 use Rattle.circuit_plans.specs.declared.roles.Start.TheVariants.{Any}
 use Rattle.plan_choice.specs.Choices.{EagerFits, Fit, FineFits, GatesAreFew, IsBelowFineLines, IsChoiceFault, IsLaidFor}
@@ -230,7 +230,7 @@ no_eager_row s b m short within fit = (let few = fit.few_lines in omega (arith, 
 below_fine : (s : SettledView) (b : BudgetView) (m : Measures) → b.lines < ports_of s + b.borrow → IsWithin s m → IsBelowFineLines b m
 below_fine s b m short within = record { below = λ levels are. omega (arith, short, within.inputs, within.outputs) }
 
-few_ports : (how : How) (s : SettledView) (b : BudgetView) → b.lines < ports_of s + b.borrow → LinesAreFew how s b
+few_ports : (how : Plan) (s : SettledView) (b : BudgetView) → b.lines < ports_of s + b.borrow → LinesAreFew how s b
 few_ports Auto s b short = record {
   few = λ m within. below_fine s b m short within;
   no_row = λ m within row. elim row as (λ _. ⊥) [
@@ -262,7 +262,7 @@ wanted_ports s b short = elim (cases_Bool (ltb b.lines (ports_of s + b.borrow)))
 ]
 
 -- the refusal where the lines of the inputs, the outputs and the borrowed bits pass the budget
-pub ports_fault : (how : How) (s : SettledView) (b : BudgetView) (need : ℕ) → need ≡ ports_of s + b.borrow → b.lines < need
+pub ports_fault : (how : Plan) (s : SettledView) (b : BudgetView) (need : ℕ) → need ≡ ports_of s + b.borrow → b.lines < need
     → IsChoiceFault how s b (Lines need)
 ports_fault how s b need is short =
     let less : b.lines < ports_of s + b.borrow = omega (arith, is, short) in

@@ -18,8 +18,8 @@ use Rattle.bennett_pebbling.specs.Blocks.{AreWithinBlock}
 use Rattle.plan_choice.specs.Blocks.{extent_of}
 use Rattle.plan_choice.specs.Lean.{CoveringFits, IsAsCompact, IsCovering, IsThrifty}
 use Rattle.sum_graph.specs.Graphs.{IsLeanOf, SumGraphView}
-use Rattle.circuit_plans.specs.declared.choice.How.{How}
-use Rattle.circuit_plans.specs.declared.choice.How.TheVariants.{Auto, Compact, Eager, Lean, Pebble}
+use Rattle.circuit_plans.specs.declared.choice.Plan.{Plan}
+use Rattle.circuit_plans.specs.declared.choice.Plan.TheVariants.{Auto, Compact, Eager, Lean, Pebble}
 
 -- ---- rows of the budget numbers
 
@@ -55,7 +55,7 @@ abbrev pub LeanFits : BudgetView → Measures → Type 0
 LeanFits b m = Fit b (lean_lines m b.borrow) (lean_gates m)
 
 -- one of the rows that a choice of plans allows fits
-abbrev pub SomeRowFits : How → BudgetView → Measures → Type 0
+abbrev pub SomeRowFits : Plan → BudgetView → Measures → Type 0
 SomeRowFits Auto b m = EagerFits b m ⊎ PebblingFits b m
 SomeRowFits Compact b m = LeanFits b m
 SomeRowFits Eager b m = EagerFits b m
@@ -82,7 +82,7 @@ pub record IsBelowFineGates (b : BudgetView) (m : Measures) : Type 0 where
 
 -- the budget has fewer lines than the eager number, than a line for each step under `Lean` and
 -- `Compact`, or than the fine number where pebbling of the plain graph is tried too
-abbrev pub HasFewLines : How → BudgetView → Measures → Type 0
+abbrev pub HasFewLines : Plan → BudgetView → Measures → Type 0
 HasFewLines Auto b m = IsBelowFineLines b m
 HasFewLines Compact b m = b.lines < lean_lines m b.borrow
 HasFewLines Eager b m = b.lines < eager_lines m b.borrow
@@ -91,7 +91,7 @@ HasFewLines Pebble b m = IsBelowFineLines b m
 
 -- the same of gates; under those two pebbling by smaller blocks saves lines for gates, and the row
 -- tells all that is known
-abbrev pub HasFewGates : How → BudgetView → Measures → Type 0
+abbrev pub HasFewGates : Plan → BudgetView → Measures → Type 0
 HasFewGates Auto b m = IsBelowFineGates b m
 HasFewGates Compact b m = ¬ LeanFits b m
 HasFewGates Eager b m = b.gates < eager_gates m
@@ -100,18 +100,18 @@ HasFewGates Pebble b m = IsBelowFineGates b m
 
 -- within all measures within which the settled graph is, the budget has too few lines, and no
 -- allowed row fits
-pub record LinesAreFew (how : How) (s : SettledView) (b : BudgetView) : Type 0 where
+pub record LinesAreFew (how : Plan) (s : SettledView) (b : BudgetView) : Type 0 where
   pub few : (m : Measures) → IsWithin s m → HasFewLines how b m
   pub no_row : (m : Measures) → IsWithin s m → ¬ SomeRowFits how b m
 
 -- the same of gates
-pub record GatesAreFew (how : How) (s : SettledView) (b : BudgetView) : Type 0 where
+pub record GatesAreFew (how : Plan) (s : SettledView) (b : BudgetView) : Type 0 where
   pub few : (m : Measures) → IsWithin s m → HasFewGates how b m
   pub no_row : (m : Measures) → IsWithin s m → ¬ SomeRowFits how b m
 
 -- why no plan is laid; memory is wanted only where the budget has the lines of the inputs and
 -- outputs
-abbrev pub IsChoiceFault : How → SettledView → BudgetView → PlanFault → Type 0
+abbrev pub IsChoiceFault : Plan → SettledView → BudgetView → PlanFault → Type 0
 IsChoiceFault how s b (Lines need) = LinesAreFew how s b × (need ≡ wanted_lines (ports_of s) b)
 IsChoiceFault how s b Gates = GatesAreFew how s b
 IsChoiceFault how s b (Memory _) = HasPortLines (ports_of s) b
@@ -177,7 +177,7 @@ pub record NoEagerFits (s : SettledView) (b : BudgetView) : Type 0 where
 
 -- a plan that the choice allows; pebbling comes only where the eager numbers do not fit, or where
 -- it alone is allowed
-abbrev pub IsChosen : How → SettledView → BudgetView → LaidView → Type 0
+abbrev pub IsChosen : Plan → SettledView → BudgetView → LaidView → Type 0
 IsChosen Auto s b laid = IsEager s b laid ⊎ (NoEagerFits s b × IsPebbling s b laid)
 IsChosen Compact s b laid = IsCompact s b laid
 IsChosen Eager s b laid = IsEager s b laid

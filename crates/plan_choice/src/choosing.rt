@@ -3,7 +3,7 @@ ghost use Rattle.std.specs.Prelude.{◌≡◌, ◌+◌, ◌≤◌, IfOk, IfErr};
 ghost use Rattle.eager_cleanup.specs.Eager.{ports_of};
 ghost use Rattle.sum_graph.specs.Plain.{plain_of};
 ghost use Rattle.plan_choice.specs.Choices.{IsChoiceFault, IsChosen, IsLaidFor};
-ghost use Rattle.circuit_plans.specs.declared.choice.How.TheVariants.{Auto};
+ghost use Rattle.circuit_plans.specs.declared.choice.Plan.TheVariants.{Auto};
 ghost use Rattle.circuit_plans.specs.declared.roles.Start.TheVariants.{Any};
 ghost use Rattle.circuit_plans.specs.Plans.{start_of};
 
@@ -11,7 +11,7 @@ use crate::compact::lay_compact;
 use crate::laying::{Tried, is_refused, lay_eager};
 use crate::lean::lay_lean;
 use crate::search::lay_pebbling;
-use circuit_plans::{Budget, How, Laid, PlanFault};
+use circuit_plans::{Budget, Plan, Laid, PlanFault};
 use claim_check::Settled;
 use std::alloc::Global;
 use sum_graph::SumGraph;
@@ -34,7 +34,7 @@ use sum_graph::SumGraph;
 /// `Compact`, `Lines` only where it does not have a line for each node, and `Gates` only where the
 /// row does not fit, be it in lines or in gates. `need` is the number of inputs, outputs and
 /// borrowed lines where that passes the budget, and one line more than the budget otherwise.
-pub fn choose(alloc: Global, graph: &Settled, budget: &Budget, how: How) -> Result<Laid, PlanFault>
+pub fn choose(alloc: Global, graph: &Settled, budget: &Budget, how: Plan) -> Result<Laid, PlanFault>
     ensures ok { IfOk result (IsLaidFor (start_of how) graph.now budget.now) }
     ensures chosen { IfOk result (IsChosen how graph.now budget.now) }
     ensures refused { IfErr result (IsChoiceFault how graph.now budget.now) }
@@ -47,18 +47,18 @@ pub fn choose(alloc: Global, graph: &Settled, budget: &Budget, how: How) -> Resu
 }
 
 // The first plan that fits the budget, where it has a line for each input, output and borrowed bit.
-fn chosen(alloc: Global, graph: &Settled, budget: &Budget, how: How) -> Tried
+fn chosen(alloc: Global, graph: &Settled, budget: &Budget, how: Plan) -> Tried
     requires { ports_of graph.now + budget.now.borrow ≤ budget.now.lines }
     ensures ok { IfOk result (IsLaidFor (start_of how) graph.now budget.now) }
     ensures chosen { IfOk result (IsChosen how graph.now budget.now) }
     ensures refused { IfErr result (IsChoiceFault how graph.now budget.now) }
 {
     match how {
-        How::Auto => eager_or_pebbling(alloc, graph, &SumGraph::plain(alloc, graph)?, budget),
-        How::Compact => lay_compact(alloc, graph, &SumGraph::lean(alloc, graph)?, budget),
-        How::Eager => lay_eager(alloc, graph, &SumGraph::plain(alloc, graph)?, budget),
-        How::Lean => lay_lean(alloc, graph, &SumGraph::lean(alloc, graph)?, budget),
-        How::Pebble => lay_pebbling(alloc, graph, &SumGraph::plain(alloc, graph)?, budget),
+        Plan::Auto => eager_or_pebbling(alloc, graph, &SumGraph::plain(alloc, graph)?, budget),
+        Plan::Compact => lay_compact(alloc, graph, &SumGraph::lean(alloc, graph)?, budget),
+        Plan::Eager => lay_eager(alloc, graph, &SumGraph::plain(alloc, graph)?, budget),
+        Plan::Lean => lay_lean(alloc, graph, &SumGraph::lean(alloc, graph)?, budget),
+        Plan::Pebble => lay_pebbling(alloc, graph, &SumGraph::plain(alloc, graph)?, budget),
     }
 }
 

@@ -1,6 +1,6 @@
 // The best plan of a lean graph, laid: the lean one, or one that a planner finds.
 ghost use Rattle.std.specs.Prelude.{◌≡◌, if◌then◌else◌, IfOk, IfErr, IfSome};
-ghost use Rattle.circuit_plans.specs.declared.choice.How.TheVariants.{Compact};
+ghost use Rattle.circuit_plans.specs.declared.choice.Plan.TheVariants.{Compact};
 ghost use Rattle.circuit_plans.specs.declared.roles.Start.TheVariants.{Zero};
 ghost use Rattle.eager_cleanup.specs.Eager.{ports_of};
 ghost use Rattle.held_nodes.specs.Plans.{HasPortLines, IsNarrowPlan};

@@ -1,7 +1,7 @@
 // Plans of a lean graph, laid: narrow gates stay as they are.
 ghost use Rattle.std.specs.Prelude.{◌≡◌, ◌≤◌, IfOk, IfErr, if◌then◌else◌};
 ghost use Rattle.bennett_pebbling.specs.Pebbling.{IsPebblingFault};
-ghost use Rattle.circuit_plans.specs.declared.choice.How.TheVariants.{Lean};
+ghost use Rattle.circuit_plans.specs.declared.choice.Plan.TheVariants.{Lean};
 ghost use Rattle.circuit_plans.specs.declared.roles.Start.TheVariants.{Any};
 ghost use Rattle.plan_choice.specs.Choices.{IsChoiceFault, IsLaidFor, IsLean};
 ghost use Rattle.plan_choice.specs.Lean.{IsLeanFault};

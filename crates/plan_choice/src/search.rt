@@ -1,6 +1,6 @@
 // The search for the size of a block.
 ghost use Rattle.std.specs.Prelude.{◌≡◌, IfOk, IfErr};
-ghost use Rattle.circuit_plans.specs.declared.choice.How.TheVariants.{Pebble};
+ghost use Rattle.circuit_plans.specs.declared.choice.Plan.TheVariants.{Pebble};
 ghost use Rattle.sum_graph.specs.Plain.{plain_of};
 ghost use Rattle.circuit_plans.specs.declared.roles.Start.TheVariants.{Any};
 ghost use Rattle.plan_choice.specs.Choices.{IsChoiceFault, IsLaidFor, IsPebbling};

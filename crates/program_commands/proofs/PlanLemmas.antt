@@ -10,7 +10,7 @@ use Rattle.claim_check.specs.Settled.{SettledView, IsSettledOf}
 use Rattle.claim_check.proofs.BudgetLemmas.{settled_graphs_are_within}
 use Rattle.claim_check.proofs.MeasureLemmas.{tapes_have_measures}
 use Rattle.circuit_plans.specs.declared.plan.TheConstants.{MOST_LINES, MOST_GATES}
-use Rattle.circuit_plans.specs.declared.choice.How.{How}
+use Rattle.circuit_plans.specs.declared.choice.Plan.{Plan}
 use Rattle.format_parts.specs.Fits.{FitAFile}
 use Rattle.circuit_plans.specs.declared.roles.Start.{Start}
 use Rattle.circuit_plans.specs.Plans.{AddsOutput, BudgetView, LaidView, roles_of, lines_in, start_of}
@@ -18,7 +18,7 @@ use Rattle.mct_circuit.specs.Gates.{AreGatesOn, AreNarrow}
 use Rattle.qasm_format.proofs.MeaningLemmas as qasm
 use Rattle.real_format.proofs.MeaningLemmas as real
 use Rattle.mct_circuit.specs.Sizes.{counts_of}
-use Rattle.circuit_plans.specs.declared.choice.How.TheVariants.{Lean}
+use Rattle.circuit_plans.specs.declared.choice.Plan.TheVariants.{Lean}
 use Rattle.plan_choice.specs.Choices.{IsChosen, IsCompact, IsLean, LeanFits}
 use Rattle.program_commands.specs.Outcomes.{IsCompileFault, IsWritable, file_of}
 use Rattle.program_texts.specs.Outcomes.{IsSettlingFault, IsTextFault}
@@ -43,7 +43,7 @@ use Rattle.program_texts.proofs.FormedLemmas.{some_output}
 
 -- ---- the plan of the graph
 
-clean_plan : (how : How) (text : List ℕ) (laid : LaidView) (tape : TapeView) (s : SettledView) (b : BudgetView) (l : LeavesTape text tape)
+clean_plan : (how : Plan) (text : List ℕ) (laid : LaidView) (tape : TapeView) (s : SettledView) (b : BudgetView) (l : LeavesTape text tape)
     → IsSettledOf tape s → IsPlanOf how s b laid → b.lines ≤ MOST_LINES → b.gates ≤ MOST_GATES → IsCleanPlan (start_of how) laid l.program b
 clean_plan how text laid tape s b l is plan lines gates =
     let some = some_output text l.program tape l.formed l.tape_of in
@@ -96,7 +96,7 @@ module _ (order : OrderView) (laid : LaidView) (tape : TapeView) (s : SettledVie
     row_fits fit = record { few_lines = omega (arith, same_lines, fit.lines); few_gates = omega (arith, same_gates, fit.gates) }
 
     lean_plan : order.plan ≡ Lean → IsLean s (budget_of order) laid
-    lean_plan lean = subst (λ (how : How). IsChosen how s (budget_of order) laid) lean chosen
+    lean_plan lean = subst (λ (how : Plan). IsChosen how s (budget_of order) laid) lean chosen
 
     -- no more ANDs stand in a settled graph than the run of its program writes
     few_toffoli_gates : HasFewToffoliGates order tape laid.circuit.gates
@@ -104,7 +104,7 @@ module _ (order : OrderView) (laid : LaidView) (tape : TapeView) (s : SettledVie
       few = λ which fit. elim which as (λ _. (counts_of laid.circuit.gates).ccx ≤ 2 * ands_of tape) [
         | inl lean ↦ omega (arith, ((lean_plan lean).few m within (row_fits fit)).all, no_larger.ands)
         | inr compact ↦
-            let plan : IsCompact s (budget_of order) laid = subst (λ (how : How). IsChosen how s (budget_of order) laid) compact chosen in
+            let plan : IsCompact s (budget_of order) laid = subst (λ (how : Plan). IsChosen how s (budget_of order) laid) compact chosen in
             omega (arith, (plan.few m within (row_fits fit)).all, no_larger.ands)
       ];
     }

@@ -9,7 +9,7 @@ use Rattle.circuit_plans.specs.declared.roles.Roles.{Roles}
 use Rattle.circuit_plans.specs.Plans.{BudgetView, LaidView, lines_in, roles_of, start_of}
 use Rattle.mct_circuit.specs.Gates.{GateView}
 use Rattle.mct_circuit.specs.Sizes.{counts_of}
-use Rattle.circuit_plans.specs.declared.choice.How.TheVariants.{Compact, Lean}
+use Rattle.circuit_plans.specs.declared.choice.Plan.TheVariants.{Compact, Lean}
 use Rattle.plan_choice.specs.Choices.{HasFewLines, HasFewGates, IsChosen, SomeRowFits}
 use Rattle.revs_tape.specs.Measures.{ands_of, inputs_of, outputs_of, writes_of}
 use Rattle.revs_tape.specs.Tapes.{TapeView}

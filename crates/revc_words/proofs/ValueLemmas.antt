@@ -12,8 +12,8 @@ use Rattle.arith_templates.specs.declared.kind.Kind.{Kind}
 use Rattle.arith_templates.specs.declared.kind.Kind.TheVariants.{Add, Sub, Less, Inc, Mul}
 use Rattle.arith_templates.specs.declared.limits.TheConstants.{MOST_FACTOR}
 use Rattle.circuit_plans.specs.declared.plan.TheConstants.{MOST_LINES, MOST_GATES, MOST_BORROWED}
-use Rattle.circuit_plans.specs.declared.choice.How.{How}
-use Rattle.circuit_plans.specs.declared.choice.How.TheVariants.{Auto, Compact, Eager, Lean, Pebble}
+use Rattle.circuit_plans.specs.declared.choice.Plan.{Plan}
+use Rattle.circuit_plans.specs.declared.choice.Plan.TheVariants.{Auto, Compact, Eager, Lean, Pebble}
 use Rattle.revc_words.specs.declared.limits.TheConstants.{MOST_DIGITS, MOST_NODES, USUAL_LINES, USUAL_GATES, USUAL_NODES}
 use Rattle.revc_words.specs.declared.order.Format.{Format}
 use Rattle.revc_words.specs.declared.order.Format.TheVariants.{Real, Qasm}
@@ -125,7 +125,7 @@ first_says text (first ∷ others) word one e = at (bytes_eq word (text first)) 
     at true is e behind = (bytes_eq-Decides word (text first)).0 is ∙ ap text (same_Some _ _ e)
     at false is e behind = behind e
 
-pub plan_named : (plan : How) → plan_of (plan_word plan) ≡ Some plan
+pub plan_named : (plan : Plan) → plan_of (plan_word plan) ≡ Some plan
 plan_named Auto = refl
 plan_named Compact = refl
 plan_named Eager = refl
@@ -182,7 +182,7 @@ number_rule least most usual = record {
   no_option = number_is_no_option least most;
 }
 
-pub plan_is_no_option : (plan : How) → is_option (plan_word plan) ≡ false
+pub plan_is_no_option : (plan : Plan) → is_option (plan_word plan) ≡ false
 plan_is_no_option Auto = refl
 plan_is_no_option Compact = refl
 plan_is_no_option Eager = refl

@@ -10,8 +10,8 @@ use Rattle.arith_templates.specs.declared.kind.Kind.{Kind}
 use Rattle.arith_templates.specs.declared.kind.Kind.TheVariants.{Add, Sub, Less, Inc, Mul}
 use Rattle.arith_templates.specs.declared.limits.TheConstants.{MOST_FACTOR}
 use Rattle.circuit_plans.specs.declared.plan.TheConstants.{MOST_LINES, MOST_GATES, MOST_BORROWED}
-use Rattle.circuit_plans.specs.declared.choice.How.{How}
-use Rattle.circuit_plans.specs.declared.choice.How.TheVariants.{Auto, Compact, Eager, Lean, Pebble}
+use Rattle.circuit_plans.specs.declared.choice.Plan.{Plan}
+use Rattle.circuit_plans.specs.declared.choice.Plan.TheVariants.{Auto, Compact, Eager, Lean, Pebble}
 use Rattle.circuit_plans.specs.declared.roles.Start.{Start}
 use Rattle.circuit_plans.specs.declared.roles.Start.TheVariants.{Any, Zero}
 use Rattle.program_gen.specs.declared.adder.TheConstants.{MOST_BITS}
@@ -146,7 +146,7 @@ pub record IsNumberIn (least most : ℕ) (word : List ℕ) (n : ℕ) : Type 0 wh
   pub most_is : n ≤ most
 
 -- the word for a choice of plans
-abbrev pub plan_word : How → List ℕ
+abbrev pub plan_word : Plan → List ℕ
 plan_word Auto = codes "auto"
 plan_word Compact = codes "compact"
 plan_word Eager = codes "eager"
@@ -195,7 +195,7 @@ IsCounted name least most usual given number =
     (λ word. IsNumberIn least most word number)
 
 -- the plans that are tried: those that are given, or the eager plan and then pebbling
-abbrev pub IsPlan : List Setting → How → Type 0
+abbrev pub IsPlan : List Setting → Plan → Type 0
 IsPlan given plan = IsChosen (codes "plan") plan_word Auto given plan
 
 -- the most lines: those that are given, from 1 on, or the usual number

@@ -4,7 +4,7 @@ ghost use Rattle.revc_words.specs.Words.{first_word, order_of};
 
 use crate::{Command, USUAL_GATES, USUAL_LINES, USUAL_NODES};
 use arith_templates::Kind;
-use circuit_plans::{How, Start};
+use circuit_plans::{Plan, Start};
 
 /// A format of circuit files.
 #[derive(Clone, Copy, PartialEq, Eq)]
@@ -41,7 +41,7 @@ pub enum Write {
 #[derive(Clone, Copy)]
 pub struct Values {
     /// Which plans are tried.
-    pub plan: How,
+    pub plan: Plan,
     /// The most lines of the circuit, 1 to 16,384.
     pub lines: u32,
     /// The most gates of the circuit, 1 to 4,000,000.
@@ -69,7 +69,7 @@ pub struct Values {
 impl Values {
     /// The usual values.
     pub const USUAL: Values = Values {
-        plan: How::Auto,
+        plan: Plan::Auto,
         lines: USUAL_LINES,
         gates: USUAL_GATES,
         borrow: 0,

@@ -8,7 +8,7 @@ ghost use Rattle.revc_words.specs.inside.Parsing.{format_of, start_of, way_of, w
 
 use crate::{Command, Format, MOST_DIGITS, MOST_NODES, Values, Way, Write};
 use arith_templates::{Kind, MOST_FACTOR};
-use circuit_plans::{How, MOST_BORROWED, MOST_GATES, MOST_LINES, Start};
+use circuit_plans::{Plan, MOST_BORROWED, MOST_GATES, MOST_LINES, Start};
 use clap::ArgMatches;
 
 /// The values of the texts that are given to a command: what has no text has its usual value.
@@ -99,16 +99,16 @@ fn chosen<C: Choice>(name: Option<&str>, usual: C) -> Option<C>
     }
 }
 
-impl Choice for How {
+impl Choice for Plan {
     ghost choice = { plan_of };
 
-    fn named(name: &str) -> Option<How> {
+    fn named(name: &str) -> Option<Plan> {
         match name {
-            "auto" => Some(How::Auto),
-            "compact" => Some(How::Compact),
-            "eager" => Some(How::Eager),
-            "lean" => Some(How::Lean),
-            "pebble" => Some(How::Pebble),
+            "auto" => Some(Plan::Auto),
+            "compact" => Some(Plan::Compact),
+            "eager" => Some(Plan::Eager),
+            "lean" => Some(Plan::Lean),
+            "pebble" => Some(Plan::Pebble),
             _ => None,
         }
     }

@@ -15,7 +15,7 @@ use Rattle.held_nodes.specs.Moves.{roles_of_plan}
 use Rattle.mct_circuit.specs.Gates.{AreNarrow, GateView}
 use Rattle.eager_cleanup.specs.Eager.{ports_of}
 use Rattle.held_nodes.specs.Plans.{HasPortLines}
-use Rattle.circuit_plans.specs.declared.choice.How.TheVariants.{Lean}
+use Rattle.circuit_plans.specs.declared.choice.Plan.TheVariants.{Lean}
 use Rattle.plan_choice.specs.Choices.{IsChoiceFault, IsLaidFor, IsLean, NoLargerFits}
 use Rattle.plan_choice.specs.Lean.{CoveringFits, IsAsCompact, IsCovering, area, toffoli}
 use Rattle.ready_cleanup.specs.Ready.{ready_gates}

@@ -6,7 +6,7 @@ use Rattle.circuit_plans.specs.Plans.{BudgetView, LaidView, roles_of, start_of}
 use Rattle.circuit_plans.specs.declared.roles.Start.{Start}
 use Rattle.held_nodes.specs.Plans.{wanted_lines}
 use Rattle.mct_circuit.specs.Gates.{AreGatesOn, AreNarrow}
-use Rattle.circuit_plans.specs.declared.choice.How.{How}
+use Rattle.circuit_plans.specs.declared.choice.Plan.{Plan}
 use Rattle.plan_choice.specs.Choices.{GatesAreFew, IsChosen, IsLaidFor, LinesAreFew}
 use Rattle.revs_tape.specs.Tapes.{TapeView}
 use Rattle.revc_words.specs.Words.{OrderView}
@@ -31,7 +31,7 @@ pub record IsCleanPlan (start : Start) (laid : LaidView) (p : ProgramView) (b : 
 
 -- a plan of the settled graph that is allowed, within the budget: its gates are narrow, and on its
 -- lines, which are those of its roles
-pub record IsPlanOf (how : How) (graph : SettledView) (b : BudgetView) (laid : LaidView)
+pub record IsPlanOf (how : Plan) (graph : SettledView) (b : BudgetView) (laid : LaidView)
     : Type 0 where
   pub is : IsLaidFor (start_of how) graph b laid
   pub chosen : IsChosen how graph b laid
@@ -49,7 +49,7 @@ pub record IsPlannedFor (order : OrderView) (text : List ℕ) (tape : TapeView) 
   pub on : AreGatesOn laid.circuit.lines laid.circuit.gates
 
 -- why a settled graph has no plan within the budget, or there was no memory left
-abbrev pub IsPlanningFault : How → SettledView → BudgetView → Fault → Type 0
+abbrev pub IsPlanningFault : Plan → SettledView → BudgetView → Fault → Type 0
 IsPlanningFault how s b (Lines need limit) =
     LinesAreFew how s b × (need ≡ wanted_lines (s.inputs + length s.outputs) b) × (limit ≡ b.lines)
 IsPlanningFault how s b (Gates limit) = GatesAreFew how s b × (limit ≡ b.gates)
