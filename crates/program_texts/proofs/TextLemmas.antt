@@ -19,9 +19,9 @@ use Rattle.revc_base.specs.declared.place.Place.{Place}
 use Rattle.revs_parser.specs.declared.limits.TheConstants.{MOST_BYTES}
 use Rattle.program_texts.specs.inside.Mappings.{lexing_fault, parsing_fault, scope_fault, run_fault}
 use Rattle.program_texts.proofs.RefusalLemmas.{of_tokens}
-use Rattle.inliner.specs.Faults.{IsRefused as IsStuckAlways}
-use Rattle.inliner.specs.declared.fault.RunFault.{RunFault}
-use Rattle.inliner.specs.declared.fault.RunFault.TheVariants as runs
+use Rattle.revs_run.specs.Faults.{IsRefused as IsStuckAlways}
+use Rattle.revs_run.specs.declared.fault.RunFault.{RunFault}
+use Rattle.revs_run.specs.declared.fault.RunFault.TheVariants as runs
 use Rattle.revs_terms.specs.Scopes.{scope_verdict, bound_as}
 use Rattle.revs_terms.specs.Trees.{Tree}
 use Rattle.revs_terms.specs.declared.program.Param.{Param}

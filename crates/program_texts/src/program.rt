@@ -11,7 +11,7 @@ ghost use Rattle.program_texts.specs.Outcomes.{IsTextFault};
 ghost use Rattle.program_texts.specs.Settling.{LeavesTape};
 
 use command_answers::{Fault, FaultKind, Refusal};
-use inliner::{RunFault, unroll};
+use revs_run::{RunFault, unroll};
 use name_scope::{ScopeFault, Scoped, scope};
 use revc_base::Place;
 use revs_lexer::{LexFault, tokens};

@@ -1,6 +1,6 @@
 -- The fault of a command for each fault of a layer. Want of memory comes from want of memory alone.
-use Rattle.inliner.specs.declared.fault.RunFault.{RunFault}
-use Rattle.inliner.specs.declared.fault.RunFault.TheVariants as runs
+use Rattle.revs_run.specs.declared.fault.RunFault.{RunFault}
+use Rattle.revs_run.specs.declared.fault.RunFault.TheVariants as runs
 use Rattle.name_scope.specs.declared.binding.ScopeFault.{ScopeFault}
 use Rattle.name_scope.specs.declared.binding.ScopeFault.TheVariants as scopes
 use Rattle.revc_base.specs.declared.bits.BitsFault.{BitsFault}

@@ -1,7 +1,7 @@
 -- From a text to its program and its tape, and from a word to its bits, and why there are none.
 use Rattle.std.specs.Prelude.{◌≡◌, ℕ, List}
-use Rattle.inliner.specs.Faults.{IsRefused}
-use Rattle.inliner.specs.declared.fault.RunFault.{RunFault}
+use Rattle.revs_run.specs.Faults.{IsRefused}
+use Rattle.revs_run.specs.declared.fault.RunFault.{RunFault}
 use Rattle.revs_parser.specs.WellFormed.{IsProgramText}
 use Rattle.revs_terms.specs.Scopes.{scope_verdict, bound_as}
 use Rattle.revs_terms.specs.Views.{ProgramView}

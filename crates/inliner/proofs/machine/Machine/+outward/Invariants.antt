@@ -1,4 +1,0 @@
-use Rattle.inliner.proofs.machine.Machine.+outward.Given as goal
-
-abbrev pub decreases-outward : goal.decreases-outward
-decreases-outward l = l.count

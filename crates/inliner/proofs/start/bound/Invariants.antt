@@ -1,6 +1,0 @@
-use Rattle.std.proofs.Common.{drop}
-use Rattle.inliner.proofs.StartLemmas.{InBound}
-use Rattle.inliner.proofs.start.bound.Given as goal
-
-abbrev pub invariant-loop-param : goal.invariant-loop-param
-invariant-loop-param l = InBound l.bindings.items l.first (drop l.param-index l.params) l.params

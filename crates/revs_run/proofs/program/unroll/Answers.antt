@@ -1,0 +1,20 @@
+use Rattle.std.proofs.Common.{subst}
+use Rattle.revs_terms.specs.declared.program.Program.{Program}
+use Rattle.revs_terms.specs.Trees.{tree_of}
+use Rattle.revs_terms.specs.Runs.{run_without_bits}
+use Rattle.revs_run.proofs.EndLemmas.{refused, left_on_all}
+use Rattle.std.proofs.lemmas.Result.{IfOk-weaker, IfErr-weaker}
+use Rattle.revs_run.specs.inside.Calls.{Leaves, Says}
+use Rattle.revs_run.proofs.program.unroll.Goals as goal
+
+pub returns-clause-ok : goal.returns-clause-ok
+returns-clause-ok c =
+    let p = c.args.scoped.now.program in
+    IfOk-weaker c.run.result _ _ (λ tape l. left_on_all p.params.items (tree_of p.body) tape
+    (subst (λ (x : Program). Leaves x.params.items (tree_of x.body) tape) c.program.ensures.same l)) c.run.ensures.ok
+
+pub returns-clause-err : goal.returns-clause-err
+returns-clause-err c =
+    let p = c.args.scoped.now.program in
+    IfErr-weaker c.run.result _ _ (λ fault s. refused p.params.items (tree_of p.body) fault
+    (subst (λ (x : Program). Says fault (run_without_bits x.params.items (tree_of x.body))) c.program.ensures.same s)) c.run.ensures.err

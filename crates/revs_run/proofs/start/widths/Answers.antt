@@ -1,0 +1,6 @@
+use Rattle.revs_run.proofs.ProgressLemmas.{stops}
+use Rattle.std.proofs.Common.{refl}
+use Rattle.revs_run.proofs.start.widths.Goals as goal
+
+pub returns-in_err-collect : goal.returns-in_err-collect
+returns-in_err-collect c = stops _ _ c.from_residual.result c.from_residual.ensures.1 refl
