@@ -1,11 +1,11 @@
 -- The split of a circuit into flips of at most two controls, all positive, gate by gate.
 use Rattle.std.specs.Prelude.{◌≡◌, ◌≢◌, ℕ, zero, suc, ◌+◌, ◌-◌, ◌/◌, ◌<◌, ◌≤◌, Bool, not, nat_le, if◌then◌else◌, Option, Some, None, Result, Ok, Err, List, [], ◌∷◌, ◌++◌}
-use Rattle.std.specs.Prelude.{length, map, reverse, take, drop}
+use Rattle.std.specs.Prelude.{length, map, reverse, take, drop, IfOk, IsErrOf}
 use Rattle.std.specs.List.{AllByRecursion}
 use Rattle.mct_circuit.specs.declared.gate.Control.{Control}
 use Rattle.mct_circuit.specs.declared.gate.Op.{Op}
 use Rattle.mct_circuit.specs.declared.gate.Op.TheVariants.{Flip, Swap}
-use Rattle.mct_circuit.specs.Gates.{GateView, flip_of, positive}
+use Rattle.mct_circuit.specs.Gates.{CircuitView, GateView, flip_of, line_map, positive}
 use Rattle.mct_circuit.specs.Sizes.{has_line}
 use Rattle.gate_split.specs.declared.fault.SplitFault.{SplitFault}
 use Rattle.gate_split.specs.declared.fault.SplitFault.TheVariants.{NoIdle, Gates, Memory}
@@ -164,3 +164,14 @@ IsSplit n limit gates (Ok narrow) = IsSplitList n limit gates narrow
 IsSplit n limit gates (Err (NoIdle place)) = WantsIdle n limit gates place
 IsSplit n limit gates (Err Gates) = PassesLimit n limit gates
 IsSplit n limit gates (Err (Memory _)) = ⊥
+
+-- the narrow circuit on n lines in place of wide gates, which does what they do; or exactly why not,
+-- and want of memory only where there is a split list
+pub record Splits (n most : ℕ) (wide : List GateView) (result : Result CircuitView SplitFault) : Type 0 where
+  pub gates : IfOk result (λ narrow. IsSplitList n most wide narrow.gates)
+  pub size : IfOk result (λ narrow. narrow ≡ record { lines = n; limit = most; gates = narrow.gates })
+  pub map : IfOk result (λ narrow. (bits : List Bool) → length bits ≡ n
+      → line_map narrow.gates bits ≡ line_map wide bits)
+  pub no_idle : (gate : ℕ) → IsErrOf result (NoIdle gate) → WantsIdle n most wide gate
+  pub over : IsErrOf result Gates → PassesLimit n most wide
+  pub memory : IsErrOf result (Memory _) → HasSplitList n most wide

@@ -14,5 +14,5 @@ mod wide;
 
 pub use fault::SplitFault;
 pub use law::{narrow_stay, roomy_flips_are_split, split_costs};
-pub use narrow::is_narrow;
+pub use narrow::{are_narrow, is_narrow};
 pub use walk::{split, split_owned};

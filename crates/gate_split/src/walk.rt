@@ -1,9 +1,7 @@
 // The gates in place of those of a circuit.
-ghost use Rattle.std.specs.Prelude.{◌≡◌, ◌≢◌, ℕ, ◌≤◌, List, Bool, length};
-ghost use Rattle.std.specs.Prelude.{Some, None, IfOk, IsErrOf};
-ghost use Rattle.mct_circuit.specs.Gates.{AreGatesOn, AreNarrow, line_map};
-ghost use Rattle.gate_split.specs.Split.{HasSplitList, IsSplitList, PassesLimit, WantsIdle};
-ghost use Rattle.gate_split.specs.Split.{split_gates};
+ghost use Rattle.std.specs.Prelude.{◌≡◌, ◌≢◌, ◌≤◌, length, Some, None, IfOk};
+ghost use Rattle.mct_circuit.specs.Gates.{AreGatesOn, AreNarrow};
+ghost use Rattle.gate_split.specs.Split.{Splits, split_gates};
 
 use crate::counting::decide;
 use crate::fault::SplitFault;
@@ -24,17 +22,7 @@ use std::alloc::Global;
 /// split list.
 pub fn split(alloc: Global, circuit: &Circuit, lines: u32, limit: u64) -> Result<Narrow, SplitFault>
     requires { circuit.now.lines ≤ lines }
-    ensures gates { IfOk result (λ narrow. IsSplitList lines limit circuit.now.gates
-        narrow.gates) }
-    ensures size { IfOk result (λ narrow. narrow
-        ≡ record { lines = lines; limit = limit; gates = narrow.gates }) }
-    ensures map { IfOk result (λ narrow. (bits : List Bool) → length bits ≡ lines
-        → line_map narrow.gates bits ≡ line_map circuit.now.gates bits) }
-    ensures no_idle { (gate : ℕ) → IsErrOf result (SplitFault.NoIdle gate)
-        → WantsIdle lines limit circuit.now.gates gate }
-    ensures over { IsErrOf result SplitFault.Gates → PassesLimit lines limit circuit.now.gates }
-    ensures memory { IsErrOf result (SplitFault.Memory _)
-        → HasSplitList lines limit circuit.now.gates }
+    ensures { Splits lines limit circuit.now.gates result }
 {
     decide(circuit, lines, limit)?;
     let mut gates = split_gates(alloc, circuit.gates(), lines)?;
@@ -55,16 +43,7 @@ pub fn split_owned(
     limit: u64,
 ) -> Result<Narrow, SplitFault>
     requires { circuit.lines ≤ lines }
-    ensures gates { IfOk result (λ narrow. IsSplitList lines limit circuit.gates narrow.gates) }
-    ensures size { IfOk result (λ narrow. narrow
-        ≡ record { lines = lines; limit = limit; gates = narrow.gates }) }
-    ensures map { IfOk result (λ narrow. (bits : List Bool) → length bits ≡ lines
-        → line_map narrow.gates bits ≡ line_map circuit.gates bits) }
-    ensures no_idle { (gate : ℕ) → IsErrOf result (SplitFault.NoIdle gate)
-        → WantsIdle lines limit circuit.gates gate }
-    ensures over { IsErrOf result SplitFault.Gates → PassesLimit lines limit circuit.gates }
-    ensures memory { IsErrOf result (SplitFault.Memory _)
-        → HasSplitList lines limit circuit.gates }
+    ensures { Splits lines limit circuit.gates result }
 {
     if circuit.len() <= limit && are_narrow(circuit.gates()) {
         return Ok(widened(alloc, circuit, lines, limit)?);

@@ -1,7 +1,7 @@
-use Rattle.std.proofs.Common.{◌≡◌, ◌++◌, List, ap, sym, subst, ◌∙◌}
+use Rattle.std.proofs.Common.{rules, ◌≡◌, ◌++◌, List, ap, sym, subst, ◌∙◌}
 use Rattle.mct_circuit.specs.Gates.{AreGatesOn, AreNarrow, CircuitView, GateView, line_map}
 use Rattle.gate_split.proofs.NegativeLemmas.{DoesAll, split_gates_do}
-use Rattle.gate_split.proofs.WalkLemmas.{on_more}
+use Rattle.gate_split.proofs.WalkLemmas.{fails_so, no_memory, on_more, refused}
 use Rattle.gate_split.proofs.walk.split.Goals as goal
 use Rattle.gate_split.proofs.walk.split.Goals.{After-new-narrow, In-Ok}
 
@@ -30,8 +30,32 @@ pub new-requires : goal.new-requires
 new-requires c =
     subst AreNarrow (sym (gates_are (goal.at.new-requires c).In-Ok)) (does (goal.at.new-requires c).After-new-narrow).narrow
 
-pub returns-in-Ok-clause-map : goal.returns-in-Ok-clause-map
-returns-in-Ok-clause-map c = λ bits long.
-    ap (λ (v : CircuitView). line_map v.gates bits) c.new.ensures
-    ∙ ap (λ (gs : List GateView). line_map gs bits) (gates_are (goal.at.returns-in-Ok-clause-map c).In-Ok)
-    ∙ (does (goal.at.returns-in-Ok-clause-map c).After-new-narrow).effect bits long
+pub returns-in_err-decide : goal.returns-in_err-decide
+returns-in_err-decide c =
+    let gates = c.args.circuit.now.gates in
+    fails_so c.args.lines c.args.limit gates c.from_residual.result c.from_residual.ensures.1
+    (refused c.args.lines c.args.limit gates c.in_err-decide.field-0.0 c.in_err-decide.ensures.none)
+
+pub returns-in_err-gates : goal.returns-in_err-gates
+returns-in_err-gates c =
+    let gates = c.args.circuit.now.gates in
+    fails_so c.args.lines c.args.limit gates c.from_residual-in_err-gates.result c.from_residual-in_err-gates.ensures.1
+    (no_memory c.args.lines c.args.limit gates c.in_ok-decide.ensures.some)
+
+pub returns-in-Ok : goal.returns-in-Ok
+returns-in-Ok c =
+    let same = gates_are (goal.at.returns-in-Ok c).In-Ok in
+    record {
+      gates = search rules;
+      size = search rules;
+      map = λ bits long.
+          ap (λ (v : CircuitView). line_map v.gates bits) c.new.ensures
+          ∙ ap (λ (gs : List GateView). line_map gs bits) same
+          ∙ (does (goal.at.returns-in-Ok c).After-new-narrow).effect bits long;
+      no_idle = λ gate e. absurd cc;
+      over = λ e. absurd cc;
+      memory = λ e. absurd cc;
+    }
+
+pub returns : goal.returns
+returns c = no_memory c.args.lines c.args.limit c.args.circuit.now.gates c.in_ok-decide.ensures.some
