@@ -21,7 +21,7 @@ use Rattle.list_facts.proofs.BitLemmas.{odd, odd-plus, xor_left, xor_nothing, xo
 use Rattle.dependency_graph.specs.contracts.node.BasePartialEq.TheImpl.{eq-value}
 use Rattle.dependency_graph.specs.declared.node.Base.{Base}
 use Rattle.bit_sums.specs.Growing.{IsPut}
-use Rattle.bit_sums.specs.Products.{IsJoinOf}
+use Rattle.bit_sums.specs.Products.{IsJoinOf, IsProduct}
 use Rattle.bit_sums.specs.Sums.{ProductView, SumView, IsProductOver, product_value, sum_value, xor_by}
 use Rattle.bit_sums.specs.declared.growing.Join.{Join}
 use Rattle.bit_sums.specs.inside.Firsts.{IsFirstJoin}
@@ -73,6 +73,15 @@ same_product p q e =
 pub came : (p : ProductView) (products : List ProductView) → false ≡ list_any (product_eq p) products
     → IsPermutation (p ∷ products) (insert_key product_eq products p)
 came p products h = rw (sym h) (IsPermutation-sym (products ++ p ∷ []) (p ∷ products) (IsPermutation-to_front products p))
+
+-- ---- the factors of each product have few bits
+
+pub all_but : (p : ProductView) (old new : List ProductView) → IsPermutation old (p ∷ new) → AllByRecursion IsProduct old → AllByRecursion IsProduct new
+all_but p old new h all = (AllByRecursion-permutation IsProduct old (p ∷ new) h all).1
+
+pub all_and : (p : ProductView) (old new : List ProductView) → IsPermutation (p ∷ old) new → IsProduct p → AllByRecursion IsProduct old
+    → AllByRecursion IsProduct new
+all_and p old new h is all = AllByRecursion-permutation IsProduct (p ∷ old) new h (is, all)
 
 -- ---- values
 

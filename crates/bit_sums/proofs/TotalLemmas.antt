@@ -13,7 +13,7 @@ use Rattle.list_facts.proofs.TableLemmas.{of_four_bits}
 use Rattle.dependency_graph.specs.declared.node.Base.{Base}
 use Rattle.bit_sums.specs.Bits.{apart}
 use Rattle.bit_sums.specs.Growing.{FactorView, IsFinished, IsPut, IsShort, IsSumOf, IsTimes}
-use Rattle.bit_sums.specs.Products.{IsFactor, IsProductOf}
+use Rattle.bit_sums.specs.Products.{HasFewBits, IsFactor, IsProduct, IsProductOf}
 use Rattle.bit_sums.specs.Sums.{ProductView, SumView, AreAll, IsProductOver, product_value, sum_value, xor_by}
 use Rattle.bit_sums.specs.inside.Putting.{ArePut, WithBits}
 use Rattle.bit_sums.specs.inside.Steps.{IsRisingOf}
@@ -166,9 +166,9 @@ times a b scaled bits all product products one f g p is_scaled is_all are is_one
 
 -- ---- a finished sum
 
-pub finished : (s : SumView) (bits : List Base) (products : List ProductView) → IsRisingOf s.bits bits → IsPermutation s.products products
+pub finished : (s : SumView) (bits : List Base) (products : List ProductView) → HasFewBits s → IsRisingOf s.bits bits → IsPermutation s.products products
     → IsFinished s (record { bits = bits; products = products; one = s.one })
-finished s bits products r h =
+finished s bits products few r h =
     let long : length products ≡ length s.products = length_permutation s.products products h in
     record {
       values = λ bit. rw (r.values bit, value-permutation (product_value bit) s.products products h) refl;
@@ -177,4 +177,5 @@ finished s bits products r h =
       few = long;
       light = omega (arith, long, r.few);
       one = refl;
+      few_bits = AllByRecursion-permutation IsProduct s.products products h few;
     }

@@ -3,6 +3,7 @@ use Rattle.std.specs.Prelude.{◌≡◌, ◌⊎◌, ◌+◌, ◌<◌, ◌≤◌,
 use Rattle.std.specs.Bool.{xor}
 use Rattle.dependency_graph.specs.declared.node.Base.{Base}
 use Rattle.bit_sums.specs.Bits.{AreRising}
+use Rattle.bit_sums.specs.Products.{HasFewBits}
 use Rattle.bit_sums.specs.Sums.{ProductView, SumView, AreAll, IsSumOver, IsProductOver, product_value, sum_value, weight_of, xor_by}
 use Rattle.bit_sums.specs.declared.limits.TheConstants.{MOST_FACTOR_BITS}
 
@@ -49,8 +50,8 @@ pub record IsTimes (a b : FactorView) (sum : SumView) : Type 0 where
   pub few : length sum.products ≤ 1
   pub light : weight_of sum ≤ 29
 
--- A finished sum has the value of the one that grew, of no other bases, with as many products; its
--- bits rise.
+-- A finished sum has the value of the one that grew, of no other bases, with as many products, each
+-- of factors of few bits; its bits rise.
 pub record IsFinished (grown sum : SumView) : Type 0 where
   pub values : (bit : Base → Bool) → sum_value bit sum ≡ sum_value bit grown
   pub over : (test : Base → Bool) → IsSumOver test grown → IsSumOver test sum
@@ -58,6 +59,7 @@ pub record IsFinished (grown sum : SumView) : Type 0 where
   pub few : length sum.products ≡ length grown.products
   pub light : weight_of sum ≤ weight_of grown
   pub one : sum.one ≡ grown.one
+  pub few_bits : HasFewBits sum
 
 -- the sum as a factor; none exactly where it has a product or too many bits
 abbrev pub IsFactorOrLong : SumView → Option FactorView → Type 0

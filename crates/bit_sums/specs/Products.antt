@@ -1,10 +1,11 @@
 -- Products of two sums of bits, and sums of bits with at most one product.
 use Rattle.std.specs.Prelude.{◌≡◌, ◌+◌, ◌≤◌, Bool, ◌&&◌, List, length, Option, IfSome}
 use Rattle.std.specs.Bool.{xor}
+use Rattle.std.specs.List.{AllByRecursion}
 use Rattle.std.specs.Option.{option_to_list}
 use Rattle.dependency_graph.specs.declared.node.Base.{Base}
 use Rattle.bit_sums.specs.Bits.{AreRising, HasOwn, apart}
-use Rattle.bit_sums.specs.Sums.{ProductView, AreAll, IsProductOver, product_value, xor_by}
+use Rattle.bit_sums.specs.Sums.{ProductView, SumView, AreAll, IsProductOver, product_value, xor_by}
 use Rattle.bit_sums.specs.declared.limits.TheConstants.{MOST_FACTOR_BITS}
 
 -- a factor of a product: a set of few bits
@@ -18,6 +19,10 @@ pub record IsProduct (p : ProductView) : Type 0 where
   pub second : IsFactor p.second
   pub own : HasOwn p.first p.second
   pub other : HasOwn p.second p.first
+
+-- the products of a sum are of factors of few bits, each with a bit of its own
+abbrev pub HasFewBits : SumView → Type 0
+HasFewBits sum = AllByRecursion IsProduct sum.products
 
 -- ---- some bits, and at most one product
 

@@ -2,10 +2,12 @@
 ghost use Rattle.std.specs.Prelude.{◌≡◌, ◌+◌, ◌≤◌, [], ◌∷◌, length, not, true, false, IfOk, OnOk};
 ghost use Rattle.std.specs.Prelude.{List};
 ghost use Rattle.std.specs.Prelude.{◌⊎◌, ◌++◌, cond};
+ghost use Rattle.std.specs.List.{AllByRecursion};
 ghost use Rattle.std.specs.List.Sorted.{IsPermutation};
 ghost use Rattle.std.specs.Option.{option_to_list};
 ghost use Rattle.bit_sums.specs.Growing.{IsFinished, IsPut, IsShort, IsSumOf, IsTimes};
 ghost use Rattle.bit_sums.specs.Growing.{sum_of_factor};
+ghost use Rattle.bit_sums.specs.Products.{IsProduct};
 ghost use Rattle.bit_sums.specs.Sums.{ProductView, SumView};
 ghost use Rattle.bit_sums.specs.inside.Firsts.{IsFirst, IsFirstOfFew, found_before};
 ghost use Rattle.bit_sums.specs.inside.Putting.{ArePut, IsPutOnce, WithBits};
@@ -35,6 +37,8 @@ impl Model for GrowingSum {
     ghost Value = { SumView };
 
     ghost view = { λ s. record { bits = s.bits.items; products = s.products.keys; one = s.one } };
+
+    ghost invariant = { λ s. AllByRecursion IsProduct s.products.keys };
 }
 
 impl GrowingSum {
@@ -180,6 +184,8 @@ impl GrowingSum {
     fn put_once(&mut self, product: Product) -> Result<Option<Product>, Memory>
         ensures { IfOk result (λ next. IsPutOnce self.old product self.new next) }
     {
+        // This call says that its factors have few bits.
+        let _ = product.first();
         if self.products.swap_remove(&product) {
             return Ok(None);
         }
@@ -213,12 +219,15 @@ fn bits_if(bits: &[Base], taken: bool) -> &[Base]
 
 // The set of at most one product.
 fn set_of(alloc: Global, product: Option<Product>) -> Result<IndexSet<Product>, Memory>
-    ensures { IfOk result (λ set. set.keys ≡ option_to_list product) }
+    ensures keys { IfOk result (λ set. set.keys ≡ option_to_list product) }
+    ensures products { IfOk result (λ set. AllByRecursion IsProduct set.keys) }
 {
     let mut set = IndexSet::new(alloc);
     let Some(product) = product else {
         return Ok(set);
     };
+    // This call says that its factors have few bits.
+    let _ = product.first();
     set.insert(product)?;
     Ok(set)
 }

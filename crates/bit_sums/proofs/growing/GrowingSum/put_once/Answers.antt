@@ -2,8 +2,15 @@ use Rattle.std.proofs.Common.{◌≡◌, List, ◌∷◌, ◌++◌, None, slice_
 use Rattle.std.specs.List.Sorted.{IsPermutation}
 use Rattle.bit_sums.specs.Sums.{ProductView, SumView}
 use Rattle.bit_sums.specs.inside.Putting.{IsPutOnce}
-use Rattle.bit_sums.proofs.GrowingLemmas.{came, out_at, put_at, put_away, put_in, same_product, went}
+use Rattle.bit_sums.proofs.GrowingLemmas.{all_but, came, out_at, put_at, put_away, put_in, same_product, went}
 use Rattle.bit_sums.proofs.growing.GrowingSum.put_once.Goals as goal
+
+pub invariant_of-self : goal.invariant_of-self
+invariant_of-self c =
+    let old = c.self.inside.products.keys in
+    all_but c.args.product old c.swap_remove.new.self.keys
+    (subst (λ (l : List ProductView). IsPermutation old (c.args.product ∷ l)) (sym c.swap_remove.ensures.keys)
+    (went c.args.product old c.if-swap_remove.ensures.found (λ y e. same_product c.args.product y e))) c.self.invariant
 
 pub returns-then-swap_remove : goal.returns-then-swap_remove
 returns-then-swap_remove c =

@@ -13,4 +13,4 @@ returns c =
     c.bits-2.ensures.short (rw (c.bits.ensures.bits, c.bits-2.ensures.bits) at c.in_ok-bits.ensures)
     (c.in_ok-scaled.ensures
     ∙ rw (c.bits_if.ensures, c.bits_if-2.ensures, c.one.ensures, c.one-2.ensures, c.bits-3.ensures.bits, c.bits-4.ensures.bits) refl)
-    (c.in_ok-apart.ensures ∙ rw (c.deref.ensures.value, c.deref-2.ensures.value) refl) c.in_ok-set_of.ensures both
+    (c.in_ok-apart.ensures ∙ rw (c.deref.ensures.value, c.deref-2.ensures.value) refl) c.in_ok-set_of.ensures.keys both
