@@ -1,10 +1,9 @@
 -- What was walked over gives a lean graph.
 use Rattle.std.proofs.Common.{◌≡◌, ℕ, Bool, List, [], length, map, refl, sym, ap, ◌∙◌, subst, arith}
-use Rattle.std.specs.List.{AllByRecursion}
 use Rattle.std.proofs.lemmas.List.{length-map, take_all}
 use Rattle.claim_check.specs.Settled.{SettledView, settled_value}
 use Rattle.bit_sums.specs.Sums.{SumView}
-use Rattle.sum_graph.specs.Graphs.{HasFewBits, IsSumGraph, IsLeanOf, SumGraphView, sum_on}
+use Rattle.sum_graph.specs.Graphs.{IsSumGraph, IsLeanOf, SumGraphView, sum_on}
 use Rattle.sum_graph.specs.Lone.{ands_beside}
 use Rattle.sum_graph.specs.declared.slot.Slot.{Slot}
 use Rattle.sum_graph.specs.inside.Walks.{IsEnded, IsWalked}
@@ -33,14 +32,9 @@ keeps s marks shared before after nodes sums w e = record {
   few_nodes = omega (arith, w.few, w.settled.few_nodes);
 }
 
--- each product of the nodes and of the outputs has factors of few bits
-pub record HaveFewBits (nodes sums : List SumView) : Type 0 where
-  pub of_nodes : AllByRecursion HasFewBits nodes
-  pub of_sums : AllByRecursion HasFewBits sums
-
 lean_of : (s : SettledView) (marks shared : List Bool) (before after : List Slot) (nodes sums : List SumView) → IsWalked s marks before nodes (length s.nodes)
-    → IsEnded s shared after nodes sums (length s.outputs) → HaveFewBits nodes sums → IsLeanOf s (lean s.inputs nodes sums)
-lean_of s marks shared before after nodes sums w e few = record {
+    → IsEnded s shared after nodes sums (length s.outputs) → IsLeanOf s (lean s.inputs nodes sums)
+lean_of s marks shared before after nodes sums w e = record {
   inputs = refl;
   outputs = outputs_long s shared after nodes sums e;
   values = λ input. e.values input ∙ ap (map (settled_value s input)) (take_all (length s.outputs) s.outputs (omega arith));
@@ -52,13 +46,13 @@ lean_of s marks shared before after nodes sums w e few = record {
   light = omega (arith, e.light);
   light_nodes = omega (arith, w.light);
   no_constants = w.no_constants;
-  few_bits = few.of_nodes;
-  few_output_bits = few.of_sums;
+  few_bits = w.few_bits;
+  few_output_bits = e.few_bits;
 }
 
 pub record IsDone (s : SettledView) (l : SumGraphView) : Type 0 where
   pub keeps : IsSumGraph l
-  pub lean : HaveFewBits l.nodes l.outputs → IsLeanOf s l
+  pub lean : IsLeanOf s l
 
 -- as the code comes to them
 pub done : (s first second : SettledView) (marks shared : List Bool) (before after : List Slot) (made nodes sums : List SumView) (inputs : ℕ)
@@ -69,5 +63,5 @@ done s first second marks shared before after made nodes sums inputs e f is same
     let ended = subst (λ (g : SettledView). IsEnded g shared after made sums (length g.outputs)) (f ∙ e) d in
     rw (is, same) (record {
       keeps = keeps s marks shared before after made sums walked ended;
-      lean = λ few. lean_of s marks shared before after made sums walked ended few;
+      lean = lean_of s marks shared before after made sums walked ended;
     })

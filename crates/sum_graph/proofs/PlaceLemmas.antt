@@ -18,7 +18,7 @@ use Rattle.claim_check.specs.Settled.{SettledView}
 use Rattle.bit_sums.specs.Growing.{FactorView, IsFinished, sum_of_factor}
 use Rattle.bit_sums.specs.Sums.{SumView, sum_value, weight_of}
 use Rattle.bit_sums.proofs.EqualityLemmas.{sum_eq}
-use Rattle.sum_graph.specs.Graphs.{AreKnownSums, HasNoConstant, IsKnownSum, is_known, products_in, sum_on, sums_made, weight_in}
+use Rattle.sum_graph.specs.Graphs.{AreKnownSums, HasFewBits, HasNoConstant, IsKnownSum, is_known, products_in, sum_on, sums_made, weight_in}
 use Rattle.sum_graph.specs.declared.slot.Slot.{Slot}
 use Rattle.sum_graph.specs.declared.slot.Slot.TheVariants as slots
 use Rattle.sum_graph.specs.inside.Placing.{IsOnNode, IsPlaced, IsShortened}
@@ -79,6 +79,7 @@ pub record IsAtHome (s : SettledView) (shared : Bool) (sum : SumView) (old new :
   pub products : products_in new + slot_products slot ≤ products_in old + length sum.products
   pub light : weight_in new + slot_weight slot ≤ weight_in old + weight_of sum
   pub no_constants : AllByRecursion HasNoConstant old → AllByRecursion HasNoConstant new
+  pub few_bits : AllByRecursion HasFewBits old → AllByRecursion HasFewBits new
   pub stays : shared ≡ false → slot ≡ slots.Sum sum
   pub factor : shared ≡ true → (f : FactorView) × (slot ≡ slots.Factor f) × IsKnownSum s.inputs (length new) (sum_of_factor f)
       × ((input : List Bool) → sum_on new input (sum_of_factor f) ≡ sum_on old input sum)
@@ -106,6 +107,7 @@ shortened s sum old new slot nodes known is =
       products = rw (is.same, is.is) (omega arith);
       light = rw (is.same, is.is) (omega arith);
       no_constants = λ none. subst (AllByRecursion HasNoConstant) (sym is.same) none;
+      few_bits = λ few. subst (AllByRecursion HasFewBits) (sym is.same) few;
       stays = λ no. cc;
       factor = λ yes. (
         is.factor,
@@ -133,11 +135,10 @@ known_grown : (n : ℕ) (old new : List SumView) (sum : SumView) → AreKnownSum
 known_grown n old new sum nodes known (inl same) = subst (AreKnownSums n 0) (sym same) nodes
 known_grown n old new sum nodes known (inr more) = subst (AreKnownSums n 0) (sym more) (known_more n old sum nodes known)
 
-constants_grown : (old new : List SumView) (sum : SumView) → AllByRecursion HasNoConstant old → sum.one ≡ false
-    → (new ≡ old) ⊎ (new ≡ old ++ sum ∷ []) → AllByRecursion HasNoConstant new
-constants_grown old new sum none is (inl same) = subst (AllByRecursion HasNoConstant) (sym same) none
-constants_grown old new sum none is (inr more) =
-    subst (AllByRecursion HasNoConstant) (sym more) (AllByRecursion-append HasNoConstant old (sum ∷ []) none (is, tt))
+all_grown : (P : SumView → Type 0) (old new : List SumView) (sum : SumView) → AllByRecursion P old → P sum → (new ≡ old) ⊎ (new ≡ old ++ sum ∷ [])
+    → AllByRecursion P new
+all_grown P old new sum all is (inl same) = subst (AllByRecursion P) (sym same) all
+all_grown P old new sum all is (inr more) = subst (AllByRecursion P) (sym more) (AllByRecursion-append P old (sum ∷ []) all (is, tt))
 
 on_node : (s : SettledView) (sum : SumView) (old new : List SumView) (slot : Slot) → AreKnownSums s.inputs 0 old → IsKnownSum s.inputs (length old) sum
     → IsOnNode sum old new slot → IsAtHome s true sum old new slot
@@ -154,7 +155,8 @@ on_node s sum old new slot nodes known is =
       few = few_grown old new rest is.grown;
       products = rw is.is (omega (arith, products_grown old new rest is.grown, is.finished.few));
       light = rw is.is (omega (arith, weight_grown old new rest is.grown, is.finished.light));
-      no_constants = λ none. constants_grown old new rest none refl is.grown;
+      no_constants = λ none. all_grown HasNoConstant old new rest none refl is.grown;
+      few_bits = λ few. all_grown HasFewBits old new rest few is.finished.few_bits is.grown;
       stays = λ no. cc;
       factor = λ yes. (
         factor,
@@ -177,6 +179,7 @@ at_home s false sum old new slot nodes known is = record {
   products = rw (is.0, is.1) (omega arith);
   light = rw (is.0, is.1) (omega arith);
   no_constants = λ none. subst (AllByRecursion HasNoConstant) (sym is.0) none;
+  few_bits = λ few. subst (AllByRecursion HasFewBits) (sym is.0) few;
   stays = λ no. is.1;
   factor = λ yes. cc;
 }

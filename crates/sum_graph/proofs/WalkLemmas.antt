@@ -22,7 +22,7 @@ use Rattle.dependency_graph.specs.Graphs.{and_count, IsKnownBase, IsKnownNode, I
 use Rattle.claim_check.specs.Settled.{IsSettled, SettledView, settled_value}
 use Rattle.claim_check.proofs.NodeLemmas.{known_at, value_of_node}
 use Rattle.bit_sums.specs.Sums.{SumView, weight_of}
-use Rattle.sum_graph.specs.Graphs.{IsKnownSum, is_known, sum_on, sums_made}
+use Rattle.sum_graph.specs.Graphs.{HasFewBits, IsKnownSum, is_known, sum_on, sums_made}
 use Rattle.sum_graph.specs.declared.slot.Slot.{Slot}
 use Rattle.sum_graph.specs.declared.slot.Slot.TheVariants as slots
 use Rattle.sum_graph.specs.inside.Placing.{IsPlaced}
@@ -221,6 +221,7 @@ walked_on s shared old between nodes new k node sum slot are w e is placed =
           omega (arith, w.nodes_beside lone go, made, put, more_products lone between slot k long, more_ands lone s.nodes k node e);
       light = omega (arith, home.light, step.light, w.light, sum_by-append slot_weight between (slot ∷ []), sum_by-cons slot_weight slot []);
       no_constants = home.no_constants w.no_constants;
+      few_bits = home.few_bits w.few_bits;
     }
 
 -- ---- outputs
@@ -248,6 +249,7 @@ record IsOutput (s : SettledView) (nodes : List SumView) (shared : List Bool) (l
   values : (input : List Bool) → sum_on nodes input sum ≡ settled_value s input sig
   products : sum_by slot_products new + length sum.products ≤ sum_by slot_products old
   light : sum_by slot_weight new + weight_of sum ≤ sum_by slot_weight old + 4
+  few_bits : HasFewBits sum
 
 constant_value : (bit : Bool) → xor bit (xor false false) ≡ bit
 constant_value bit = ap (xor bit) (xor_nothing false) ∙ xor_nothing bit
@@ -265,6 +267,7 @@ an_output s nodes shared left (Const bit) k old new sum known are is =
       values = λ input. done.values (base_bit (bit_of input) (sums_made (bit_of input) [] nodes)) ∙ constant_value bit;
       products = rw same (omega (arith, done.few));
       light = rw same (omega (arith, done.light));
+      few_bits = done.few_bits;
     }
 an_output s nodes shared left (Is base) k old new sum known are is =
     let from = subst (λ l. AreSlots s nodes shared l old) (ap (λ l. l ++ left) (append-nil (node_of base))) are in
@@ -276,6 +279,7 @@ an_output s nodes shared left (Is base) k old new sum known are is =
       values = λ input. is.finished.values (base_bit (bit_of input) (sums_made (bit_of input) [] nodes)) ∙ stands.values input;
       products = omega (arith, is.finished.few, taken_products base old new is.grown is.taken);
       light = omega (arith, is.finished.light, taken_weight base old new is.grown is.taken);
+      few_bits = is.finished.few_bits;
     }
 
 pub one_more_output : (s : SettledView) (shared : List Bool) (old new : List Slot) (nodes sums : List SumView) (j : ℕ) (sig : Sig) (sum : SumView)
@@ -304,6 +308,7 @@ one_more_output s shared old new nodes sums j sig sum settled w e is =
         sum_by-cons (λ (x : SumView). length x.products) sum [],
       );
       light = omega (arith, out.light, w.light, sum_by-append weight_of sums (sum ∷ []), sum_by-cons weight_of sum []);
+      few_bits = AllByRecursion-append HasFewBits sums (sum ∷ []) w.few_bits (out.few_bits, tt);
     }
 
 -- all nodes were walked over
@@ -318,4 +323,5 @@ outputs_begun s shared some nodes w =
       values = λ input. refl;
       products = omega (arith, w.products, ap (sum_by and_count) all);
       light = omega (arith, w.light);
+      few_bits = tt;
     }

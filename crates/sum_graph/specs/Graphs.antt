@@ -9,7 +9,7 @@ use Rattle.dependency_graph.specs.declared.node.Base.{Base}
 use Rattle.dependency_graph.specs.declared.node.Base.TheVariants as bases
 use Rattle.dependency_graph.specs.Graphs.{ands_in, base_bit, bits_made}
 use Rattle.claim_check.specs.Settled.{SettledView, settled_outputs}
-use Rattle.bit_sums.specs.Products.{IsProduct}
+pub use Rattle.bit_sums.specs.Products.{HasFewBits}
 use Rattle.bit_sums.specs.Sums.{SumView, IsSumOver, sum_value, weight_of}
 use Rattle.sum_graph.specs.Lone.{GoToOneOutput, ands_beside}
 
@@ -74,10 +74,6 @@ products_in sums = sum_by (λ (s : SumView). length s.products) sums
 -- what some sums weigh
 abbrev pub weight_in : List SumView → ℕ
 weight_in sums = sum_by weight_of sums
-
--- the products of a sum are of factors of few bits, each with a bit of its own
-abbrev pub HasFewBits : SumView → Type 0
-HasFewBits sum = AllByRecursion IsProduct sum.products
 
 -- a sum without the constant
 abbrev pub HasNoConstant : SumView → Type 0

@@ -5,7 +5,6 @@ ghost use Rattle.sum_graph.specs.Plain.{plain_of};
 ghost use Rattle.sum_graph.specs.Uses.{sum_last_use};
 ghost use Rattle.sum_graph.specs.inside.Fields.{view_of, IsKept};
 
-use crate::factors::factors_have_few_bits;
 use crate::plain::{plain_nodes, plain_outputs};
 use crate::walk::Walk;
 use bit_sums::Sum;
@@ -45,9 +44,6 @@ impl SumGraph {
         walk.walk(alloc)?;
         let outputs = walk.outputs(alloc)?;
         let nodes = walk.into_nodes(alloc)?;
-        // These calls say that the factors of all products have few bits.
-        factors_have_few_bits(&nodes);
-        factors_have_few_bits(&outputs);
         SumGraph::of_parts(alloc, graph.inputs(), nodes, outputs)
     }
 

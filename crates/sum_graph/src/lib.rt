@@ -2,7 +2,6 @@
 //! of a settled graph has its nodes, the lean one few of them.
 #![tactic(auto)]
 
-mod factors;
 mod graph;
 mod law;
 mod placing;

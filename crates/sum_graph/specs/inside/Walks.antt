@@ -13,7 +13,7 @@ use Rattle.dependency_graph.specs.Graphs.{and_count, base_of, nodes_among}
 use Rattle.claim_check.specs.Settled.{IsSettled, SettledView, settled_value}
 use Rattle.bit_sums.specs.Growing.{FactorView, IsFinished, IsShort, IsSumOf, IsTimes, sum_of_factor}
 use Rattle.bit_sums.specs.Sums.{SumView, weight_of}
-use Rattle.sum_graph.specs.Graphs.{AreKnownSums, HasNoConstant, IsKnownSum, products_in, sum_on, weight_in}
+use Rattle.sum_graph.specs.Graphs.{AreKnownSums, HasFewBits, HasNoConstant, IsKnownSum, products_in, sum_on, weight_in}
 use Rattle.sum_graph.specs.Lone.{GoToOneOutput, ands_beside, beside, sum_from, times_in, uses_in}
 use Rattle.sum_graph.specs.declared.slot.Slot.{Slot}
 use Rattle.sum_graph.specs.declared.slot.Slot.TheVariants as slots
@@ -176,6 +176,7 @@ pub record IsWalked (s : SettledView) (shared : List Bool) (some : List Slot) (n
       → products_in nodes + products_beside lone some ≤ ands_beside lone (take k s.nodes)
   pub light : weight_in nodes + sum_by slot_weight some ≤ 29 * k
   pub no_constants : AllByRecursion HasNoConstant nodes
+  pub few_bits : AllByRecursion HasFewBits nodes
 
 -- ---- outputs
 
@@ -209,3 +210,4 @@ pub record IsEnded (s : SettledView) (shared : List Bool) (some : List Slot) (no
       ≤ sum_by and_count s.nodes
   pub light : weight_in nodes + (weight_in sums + sum_by slot_weight some)
       ≤ 29 * length s.nodes + 4 * j
+  pub few_bits : AllByRecursion HasFewBits sums

@@ -17,10 +17,7 @@ of_parts-requires c = (is_done (goal.at.of_parts-requires c).After-inputs).keeps
 
 pub returns-clause-lean : goal.returns-clause-lean
 returns-clause-lean c =
-    let lean = (is_done (goal.at.returns-clause-lean c).After-inputs).lean (record {
-      of_nodes = rw c.deref.ensures.value at c.factors_have_few_bits.ensures;
-      of_sums = rw c.deref-2.ensures.value at c.factors_have_few_bits-2.ensures;
-    }) in
+    let lean = (is_done (goal.at.returns-clause-lean c).After-inputs).lean in
     IfOk-weaker c.of_parts.result _ _ (λ graph is. subst (IsLeanOf c.args.graph.now) (sym is) lean) c.of_parts.ensures
 
 pub returns-clause-keeps : goal.returns-clause-keeps
