@@ -224,6 +224,15 @@ impl Laid {
     {
         self.roles
     }
+
+    /// The circuit and the roles of its lines. It takes no memory.
+    pub fn into_parts(self) -> (Narrow, Roles)
+        ensures circuit { result.0 ≡ self.circuit }
+        ensures roles { result.1 ≡ roles_of self }
+        ensures lines { lines_in result.1 ≡ self.circuit.lines }
+    {
+        (self.circuit, self.roles)
+    }
 }
 
 /// Why there is no plan: so many lines are needed, or more gates than the budget has, or memory was
