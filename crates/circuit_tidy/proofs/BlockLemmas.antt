@@ -22,9 +22,9 @@ use Rattle.flip_lists.specs.declared.flip.Flip.{Flip}
 use Rattle.circuit_tidy.specs.Blocks.{AreBlocks, EndsBefore, IsBlock, IsNoLonger, addition_of, all_walked, block_taken, cx, elimination_of}
 use Rattle.circuit_tidy.specs.Blocks.{one_line, passed_over, touched}
 use Rattle.circuit_tidy.specs.Elimination.{eliminated}
-use Rattle.flip_lists.specs.Flips.{controls_of, gate_of, is_cx, is_one, lines_in, touches}
+use Rattle.flip_lists.specs.Flips.{AreFlipsOn, controls_of, gate_of, is_cx, is_one, lines_in, touches}
 use Rattle.circuit_tidy.specs.inside.BitRows.{IsCxOn}
-use Rattle.circuit_tidy.specs.inside.Walking.{AreOnLines, AreShort, AreTouched, HaveShortBlocks, IsFirstCx, IsLonger, IsPassed, IsBlockOf, StopsBefore, takes}
+use Rattle.circuit_tidy.specs.inside.Walking.{AreShort, AreTouched, HaveShortBlocks, IsFirstCx, IsLonger, IsPassed, IsBlockOf, StopsBefore, takes}
 use Rattle.circuit_tidy.specs.inside.Walking.{with_line, with_lines_of}
 use Rattle.circuit_tidy.specs.declared.blocks.Block.{Block}
 use Rattle.circuit_tidy.proofs.EliminationLemmas.{has_line-filter}
@@ -167,14 +167,14 @@ touches_low n line flip on touch =
       | inr has ↦ all_at_has (λ l. l < n) (controls_of flip) line lines.low has
     ]
 
-pub any_low : (n line : ℕ) (flips : List Flip) → AreOnLines n flips → list_any (touches line) flips ≡ true → line < n
+pub any_low : (n line : ℕ) (flips : List Flip) → AreFlipsOn n flips → list_any (touches line) flips ≡ true → line < n
 any_low n line [] on any = absurd (false≢true any)
 any_low n line (f ∷ fs) on any = elim (or_cases (touches line f) (list_any (touches line) fs) any) [
   | inl here ↦ touches_low n line f on.0 here
   | inr later ↦ any_low n line fs on.1 later
 ]
 
-pub touched_is : (n : ℕ) (flips : List Flip) (lines : List ℕ) → AreOnLines n flips → AreTouched flips lines → touched n flips ≡ lines
+pub touched_is : (n : ℕ) (flips : List Flip) (lines : List ℕ) → AreFlipsOn n flips → AreTouched flips lines → touched n flips ≡ lines
 touched_is n flips lines on are =
     same_rising (touched n flips) lines (IsRising-filter (λ l. list_any (touches l) flips) (below n) (below_rises n)) are.rising
     (λ x. has_line-filter x (λ l. list_any (touches l) flips) (below n) ∙ by x (cases_Bool (list_any (touches x) flips)) ∙ sym (are.each x))
@@ -264,7 +264,7 @@ pub passed_more : (flips rest : List Flip) (start count : ℕ) → rest ≡ drop
     → IsPassed flips (start + count)
 passed_more flips rest start count is these this = record {
   blocks = λ n on behind.
-      let on_rest : AreOnLines n rest = subst (AreOnLines n) (sym is) (AllByRecursion-drop (λ f. IsGateOn n (gate_of f)) start flips on) in
+      let on_rest : AreFlipsOn n rest = subst (AreFlipsOn n) (sym is) (AllByRecursion-drop (λ f. IsGateOn n (gate_of f)) start flips on) in
       these.blocks n on (subst (HaveShortBlocks n) is (this.blocks n on_rest
       (subst (HaveShortBlocks n) (sym (ap (drop count) is ∙ drop-drop count start flips)) behind)));
 }
@@ -275,7 +275,7 @@ no_cx_passed (f ∷ fs) first some is = record {
   blocks = λ n on behind. record { blocks = behind.blocks; are = passed_over f fs behind.blocks is behind.are; short = behind.short };
 }
 
-ends_before : (n : ℕ) (block rest : List Flip) (lines : List ℕ) → AreOnLines n (block ++ rest) → AreTouched block lines → StopsBefore lines rest
+ends_before : (n : ℕ) (block rest : List Flip) (lines : List ℕ) → AreFlipsOn n (block ++ rest) → AreTouched block lines → StopsBefore lines rest
     → EndsBefore n block rest
 ends_before n block [] lines on are stops = tt
 ends_before n block (next ∷ rest) lines on are stops = by (cases_Bool (is_cx next))
@@ -284,7 +284,7 @@ ends_before n block (next ∷ rest) lines on are stops = by (cases_Bool (is_cx n
     by (inr other) = inl other
     by (inl is) =
         let long : leb (length (with_lines_of next lines)) 64 ≡ false = sym (ap (λ b. b && leb (length (with_lines_of next lines)) 64) is) ∙ stops in
-        let on_more : AreOnLines n (block ++ next ∷ []) =
+        let on_more : AreFlipsOn n (block ++ next ∷ []) =
         AllByRecursion-append (λ f. IsGateOn n (gate_of f)) block (next ∷ []) (AllByRecursion-left (λ f. IsGateOn n (gate_of f)) block (next ∷ rest) on)
         ((AllByRecursion-right (λ f. IsGateOn n (gate_of f)) block (next ∷ rest) on).0, tt) in
         let same = touched_is n (block ++ next ∷ []) (with_lines_of next lines) on_more (one_more_touched block next lines is are) in
@@ -299,7 +299,7 @@ pub record IsCut (flips : List Flip) (count : ℕ) (lines : List ℕ) : Type 0 w
   pub few : length lines ≤ 64
   pub stops : StopsBefore lines (drop count flips)
 
-cut_is_block : (n : ℕ) (flips : List Flip) (count : ℕ) (lines : List ℕ) → IsCut flips count lines → AreOnLines n (take count flips)
+cut_is_block : (n : ℕ) (flips : List Flip) (count : ℕ) (lines : List ℕ) → IsCut flips count lines → AreFlipsOn n (take count flips)
     → IsBlock n (take count flips)
 cut_is_block n flips count lines cut on = record {
   some = let long = length-take-le count flips cut.within in let some = cut.some in omega arith;
@@ -307,7 +307,7 @@ cut_is_block n flips count lines cut on = record {
   few = subst (λ l. length l ≤ 64) (sym (touched_is n (take count flips) lines on cut.touched)) cut.few;
 }
 
-pub cut_elimination : (n : ℕ) (flips : List Flip) (count : ℕ) (lines : List ℕ) (shorter : List Flip) → IsCut flips count lines → AreOnLines n (take count flips)
+pub cut_elimination : (n : ℕ) (flips : List Flip) (count : ℕ) (lines : List ℕ) (shorter : List Flip) → IsCut flips count lines → AreFlipsOn n (take count flips)
     → shorter ≡ map cx (eliminated lines (map addition_of (take count flips))) → shorter ≡ elimination_of n (take count flips)
 cut_elimination n flips count lines shorter cut on is =
     is ∙ sym (ap (λ l. map cx (eliminated l (map addition_of (take count flips)))) (touched_is n (take count flips) lines on cut.touched))
@@ -317,7 +317,7 @@ pub block_passed : (flips : List Flip) (count : ℕ) (lines : List ℕ) (shorter
 block_passed flips count lines shorter cut is long = record {
   blocks = λ n on behind.
       let whole = take-append-drop count flips in
-      let on_block : AreOnLines n (take count flips) = AllByRecursion-take (λ f. IsGateOn n (gate_of f)) count flips on in
+      let on_block : AreFlipsOn n (take count flips) = AllByRecursion-take (λ f. IsGateOn n (gate_of f)) count flips on in
       let no_longer : IsNoLonger n (take count flips) =
       subst (λ l. length (take count flips) ≤ length l) (cut_elimination n flips count lines shorter cut on_block is)
       (let size = length-take-le count flips cut.within in omega (arith, size, long)) in
@@ -325,7 +325,7 @@ block_passed flips count lines shorter cut is long = record {
         blocks = take count flips ∷ behind.blocks;
         are = subst (λ l. AreBlocks n l (take count flips ∷ behind.blocks)) whole
             (block_taken (take count flips) (drop count flips) behind.blocks (cut_is_block n flips count lines cut on_block)
-            (ends_before n (take count flips) (drop count flips) lines (subst (AreOnLines n) (sym whole) on) cut.touched cut.stops) behind.are);
+            (ends_before n (take count flips) (drop count flips) lines (subst (AreFlipsOn n) (sym whole) on) cut.touched cut.stops) behind.are);
         short = (no_longer, behind.short);
       };
 }

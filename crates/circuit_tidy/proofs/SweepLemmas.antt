@@ -7,9 +7,9 @@ use Rattle.list_facts.proofs.AllLemmas.{AllByRecursion-append, AllByRecursion-le
 use Rattle.mct_circuit.specs.Gates.{IsGateOn, line_map}
 use Rattle.flip_lists.specs.declared.flip.Flip.{Flip}
 use Rattle.circuit_tidy.specs.declared.sweep.Sweep.{Sweep}
-use Rattle.flip_lists.specs.Flips.{are_alike, are_free, gate_of, gates_of}
+use Rattle.flip_lists.specs.Flips.{AreFlipsOn, are_alike, are_free, gate_of, gates_of}
 use Rattle.circuit_tidy.specs.inside.Sweeping.{contents, IsBegun, IsLastLike, Leads, LeadsOn, MeetsNext, Replaces, Stays, Takes}
-use Rattle.circuit_tidy.specs.inside.Walking.{AreOnLines, IsLonger}
+use Rattle.circuit_tidy.specs.inside.Walking.{IsLonger}
 use Rattle.circuit_tidy.specs.inside.Work.{Follows, GoesOn, IsSwept}
 use Rattle.flip_lists.proofs.FlipLemmas.{after, alike_flips_undo, free_flips_commute}
 use Rattle.circuit_tidy.proofs.TidyLemmas.{elimination_replaces, follows_further, replaced_follows}
@@ -23,7 +23,7 @@ moved flip [] bits free = refl
 moved flip (x ∷ xs) bits free = moved flip xs (after x bits) free.1 ∙ ap (line_map (gates_of xs)) (free_flips_commute flip x bits free.0)
 
 pub pair_goes_out : (n : ℕ) (before between behind : List Flip) (other flip : Flip) → are_alike flip other ≡ true
-    → AllByRecursion (λ one. are_free flip one ≡ true) between → AreOnLines n (before ++ ((other ∷ (between ++ flip ∷ [])) ++ behind))
+    → AllByRecursion (λ one. are_free flip one ≡ true) between → AreFlipsOn n (before ++ ((other ∷ (between ++ flip ∷ [])) ++ behind))
     → Follows n (before ++ ((other ∷ (between ++ flip ∷ [])) ++ behind)) (before ++ (between ++ behind))
 pair_goes_out n before between behind other flip alike free on =
     let P : Flip → Type 0 = λ f. IsGateOn n (gate_of f) in
@@ -138,7 +138,7 @@ cancels_leads old new place low meets done flips at =
       within = omega (arith, low, at, ap length flips);
       long = ap length flips;
       follows = λ n on. subst (Follows n (contents old)) (sym is) (subst (λ l. Follows n l (like.before ++ (like.behind ++ meets.rest))) (sym was)
-          (pair_goes_out n like.before like.behind meets.rest like.other meets.flip like.alike like.free (subst (AreOnLines n) was on)));
+          (pair_goes_out n like.before like.behind meets.rest like.other meets.flip like.alike like.free (subst (AreFlipsOn n) was on)));
     }
   where
     regroup : (a b c d e : List Flip) → (a ++ (b ++ c)) ++ (d ++ e) ≡ a ++ ((b ++ (c ++ d)) ++ e)
@@ -161,21 +161,21 @@ meets_there old mid flip d next place le low is like free takes =
 
 -- ---- a block gives way
 
-all_right : (n : ℕ) (xs ys : List Flip) → AreOnLines n (xs ++ ys) → AreOnLines n ys
+all_right : (n : ℕ) (xs ys : List Flip) → AreFlipsOn n (xs ++ ys) → AreFlipsOn n ys
 all_right n xs ys on = AllByRecursion-right (λ f. IsGateOn n (gate_of f)) xs ys on
 
-way_given : (n : ℕ) (done rest shorter : List Flip) (count : ℕ) → IsLonger (take count rest) shorter → AreOnLines n (done ++ rest)
+way_given : (n : ℕ) (done rest shorter : List Flip) (count : ℕ) → IsLonger (take count rest) shorter → AreFlipsOn n (done ++ rest)
     → GoesOn n (done ++ rest) (done ++ (shorter ++ drop count rest))
 way_given n done rest shorter count longer on =
     let block = take count rest in
     let whole : done ++ (block ++ drop count rest) ≡ done ++ rest = ap (λ l. done ++ l) (take-append-drop count rest) in
-    let on_block : AreOnLines n block = AllByRecursion-take (λ f. IsGateOn n (gate_of f)) count rest (all_right n done rest on) in
+    let on_block : AreFlipsOn n block = AllByRecursion-take (λ f. IsGateOn n (gate_of f)) count rest (all_right n done rest on) in
     let says = longer.is n on_block in
     let does = elimination_replaces n block on_block says.0 in
     let few = longer.few in
     record {
       follows = subst (λ l. Follows n l (done ++ (shorter ++ drop count rest))) whole
-          (replaced_follows n done block shorter (drop count rest) (subst (AreOnLines n) (sym whole) on) (subst (AreOnLines n) (sym says.1) does.on)
+          (replaced_follows n done block shorter (drop count rest) (subst (AreFlipsOn n) (sym whole) on) (subst (AreFlipsOn n) (sym says.1) does.on)
           (omega (arith, few)) (λ bits long. ap (λ fs. line_map (gates_of fs) bits) says.1 ∙ does.same bits long));
       less = omega (
         arith,
@@ -211,7 +211,7 @@ same_contents flips old new begun stays =
 
 pub swept_first : (flips : List Flip) (old new : Sweep) → contents old ≡ flips → LeadsOn old new → IsSwept flips (contents new)
 swept_first flips old new is goes = record {
-  goes_on = λ n on. subst (λ l. GoesOn n l (contents new)) is (goes.goes_on n (subst (AreOnLines n) (sym is) on));
+  goes_on = λ n on. subst (λ l. GoesOn n l (contents new)) is (goes.goes_on n (subst (AreFlipsOn n) (sym is) on));
 }
 
 pub swept_further : (flips : List Flip) (old new : Sweep) → IsSwept flips (contents old) → Leads old new → IsSwept flips (contents new)

@@ -1,38 +1,31 @@
 -- The work on a list of flips: its steps keep the line map, and its end is tidy.
-use Rattle.std.proofs.Common.{◌≡◌, ℕ, ◌<◌, ◌≤◌, Bool, true, false, eqb, Option, Some, None, Ok, Err, List, [], ◌∷◌, ◌++◌, length, map, take}
+use Rattle.std.proofs.Common.{◌≡◌, ℕ, ◌<◌, ◌≤◌, Bool, true, false, eqb, Option, Some, None, List, [], ◌∷◌, ◌++◌, length, map}
 use Rattle.std.proofs.Common.{reverse}
 use Rattle.std.proofs.Common.{refl, sym, ap, ◌∙◌, subst, arith}
 use Rattle.std.specs.List.{AllByRecursion, list_any}
 use Rattle.std.proofs.lemmas.Bool.{and_parts, and_from, or_left, or_right, false≢true, eq-eqb}
-use Rattle.std.proofs.lemmas.List.{length-reverse, length-append, length-map, length-take-le, map-append}
-use Rattle.std.proofs.lemmas.Option.{same_Some}
+use Rattle.std.proofs.lemmas.List.{length-reverse, length-append, length-map, map-append}
 use Rattle.list_facts.specs.Lists.{below}
 use Rattle.list_facts.proofs.AllLemmas.{AllByRecursion-append, AllByRecursion-reverse}
 use Rattle.list_facts.proofs.OrderLemmas.{IsRising-filter}
 use Rattle.std.specs.Option.{MatchOption}
-use Rattle.mct_circuit.specs.declared.gate.Control.{Control}
-use Rattle.mct_circuit.specs.declared.gate.Op.{Op}
-use Rattle.mct_circuit.specs.declared.gate.Op.TheVariants.{Flip as Op_flip}
-use Rattle.gate_split.specs.declared.fault.SplitFault.{SplitFault}
-use Rattle.mct_circuit.specs.Gates.{CircuitView, GateView, AreGatesOn, AreNarrow, IsGateOn, IsNarrow, flip_of, line_map, positive}
+use Rattle.mct_circuit.specs.Gates.{GateView, AreGatesOn, IsGateOn, line_map}
 use Rattle.mct_circuit.specs.Sizes.{has_line}
 use Rattle.mct_circuit.proofs.ReversalLemmas.{length-line_map, line_map-append}
-use Rattle.gate_split.specs.Split.{IsSplit, IsSplitList}
-use Rattle.gate_split.proofs.PieceLemmas.{stay}
-use Rattle.gate_split.proofs.SplitListLemmas.{one_split}
 use Rattle.flip_lists.specs.declared.flip.Controls.{Controls}
 use Rattle.flip_lists.specs.declared.flip.Controls.TheVariants.{Zero, One, Two}
 use Rattle.flip_lists.specs.declared.flip.Flip.{Flip}
 use Rattle.circuit_tidy.specs.Blocks.{IsBlock, addition_of, cx, elimination_of, one_line, touched}
 use Rattle.circuit_tidy.specs.Elimination.{eliminated}
-use Rattle.flip_lists.specs.Flips.{controls_of, gate_of, gates_of, is_cx, is_one, lines_in, touches}
+use Rattle.flip_lists.specs.Flips.{AreFlipsOn, controls_of, gate_of, gates_of, is_cx, is_one, lines_in, touches}
 use Rattle.circuit_tidy.specs.Pairs.{HasPair}
 use Rattle.circuit_tidy.specs.Tidied.{IsTidied}
 use Rattle.flip_lists.specs.Settling.{with_flips}
-use Rattle.circuit_tidy.specs.inside.Walking.{AreOnLines, AreShort}
+use Rattle.circuit_tidy.specs.inside.Walking.{AreShort}
 use Rattle.circuit_tidy.specs.inside.Work.{Follows, GoesOn, IsDone}
 use Rattle.circuit_tidy.proofs.BlockLemmas.{below_rises, has_line-below, any_low}
 use Rattle.circuit_tidy.proofs.EliminationLemmas.{AreLines, IsWithin, eliminated_replaces, gates_on, has_line-filter}
+use Rattle.flip_lists.proofs.GateLemmas.{gates_are_on}
 use Rattle.flip_lists.proofs.IndexLemmas.{lines_of_flip}
 use Rattle.flip_lists.proofs.SettlingLemmas.{run-reverse, run-with_flips, length-with_flips, on-with_flips, settled-with_flips}
 use Rattle.circuit_tidy.proofs.PairLemmas.{settled_has_no_pair}
@@ -48,25 +41,21 @@ follows_further n old mid new these this = record {
 
 -- ---- the pass
 
-pub settled_follows : (n : ℕ) (flips : List Flip) → AreOnLines n flips → Follows n flips (reverse (with_flips flips []))
+pub settled_follows : (n : ℕ) (flips : List Flip) → AreFlipsOn n flips → Follows n flips (reverse (with_flips flips []))
 settled_follows n flips on = record {
   on = AllByRecursion-reverse (λ f. IsGateOn n (gate_of f)) (with_flips flips []) (on-with_flips n flips [] on tt);
   few = omega (arith, length-reverse (with_flips flips []), length-with_flips flips []);
   same = λ bits long.
-      run-reverse (with_flips flips []) bits ∙ run-with_flips flips [] bits (subst (λ m. AreOnLines m flips) (sym long) on) tt;
+      run-reverse (with_flips flips []) bits ∙ run-with_flips flips [] bits (subst (λ m. AreFlipsOn m flips) (sym long) on) tt;
 }
 
 -- ---- a block replaced
-
-gates_are_on : (n : ℕ) (flips : List Flip) → AreOnLines n flips → AreGatesOn n (gates_of flips)
-gates_are_on n [] on = tt
-gates_are_on n (f ∷ fs) on = (on.0, gates_are_on n fs on.1)
 
 map_append : (these those : List Flip) (bits : List Bool) → line_map (gates_of (these ++ those)) bits ≡ line_map (gates_of those) (line_map
     (gates_of these) bits)
 map_append these those bits = ap (λ gs. line_map gs bits) (map-append gate_of these those) ∙ line_map-append (gates_of these) (gates_of those) bits
 
-pub replaced_follows : (n : ℕ) (front block shorter behind : List Flip) → AreOnLines n (front ++ (block ++ behind)) → AreOnLines n shorter
+pub replaced_follows : (n : ℕ) (front block shorter behind : List Flip) → AreFlipsOn n (front ++ (block ++ behind)) → AreFlipsOn n shorter
     → length shorter ≤ length block
     → ((bits : List Bool) → length bits ≡ n → line_map (gates_of shorter) bits ≡ line_map (gates_of block) bits)
     → Follows n (front ++ (block ++ behind)) (front ++ (shorter ++ behind))
@@ -117,12 +106,12 @@ cxs_again : (block : List Flip) → AllByRecursion (λ flip. is_cx flip ≡ true
 cxs_again [] cxs = refl
 cxs_again (f ∷ fs) cxs = let here = cx_again f cxs.0 in let rest = cxs_again fs cxs.1 in cc
 
-in_touched : (n x : ℕ) (flips : List Flip) → AreOnLines n flips → list_any (touches x) flips ≡ true → has_line x (touched n flips) ≡ true
+in_touched : (n x : ℕ) (flips : List Flip) → AreFlipsOn n flips → list_any (touches x) flips ≡ true → has_line x (touched n flips) ≡ true
 in_touched n x flips on any =
     has_line-filter x (λ l. list_any (touches l) flips) (below n)
     ∙ and_from (has_line x (below n)) (list_any (touches x) flips) (has_line-below n x (any_low n x flips on any)) any
 
-touched_lines : (n : ℕ) (flips : List Flip) → AreOnLines n flips → AreLines n (touched n flips)
+touched_lines : (n : ℕ) (flips : List Flip) → AreFlipsOn n flips → AreLines n (touched n flips)
 touched_lines n flips on = record {
   rising = IsRising-filter (λ l. list_any (touches l) flips) (below n) (below_rises n);
   low = λ x has. any_low n x flips on
@@ -137,7 +126,7 @@ touches_from flip is = by flip.controls is
     by (One a) e = or_left (eqb a a) false (eq-eqb a a refl)
     by (Two a b) e = absurd (false≢true e)
 
-additions_within : (n : ℕ) (lines : List ℕ) (flips : List Flip) → AreOnLines n flips → AllByRecursion (λ flip. is_cx flip ≡ true) flips
+additions_within : (n : ℕ) (lines : List ℕ) (flips : List Flip) → AreFlipsOn n flips → AllByRecursion (λ flip. is_cx flip ≡ true) flips
     → ((x : ℕ) → list_any (touches x) flips ≡ true → has_line x lines ≡ true) → AllByRecursion (IsWithin n lines lines) (map addition_of flips)
 additions_within n lines [] on cxs all = tt
 additions_within n lines (f ∷ fs) on cxs all =
@@ -170,10 +159,10 @@ additions_within n lines (f ∷ fs) on cxs all =
     low_from f is low = by f.controls is low
 
 pub record IsReplacement (n : ℕ) (block shorter : List Flip) : Type 0 where
-  pub on : AreOnLines n shorter
+  pub on : AreFlipsOn n shorter
   pub same : (bits : List Bool) → length bits ≡ n → line_map (gates_of shorter) bits ≡ line_map (gates_of block) bits
 
-pub elimination_replaces : (n : ℕ) (block : List Flip) → AreOnLines n block → IsBlock n block → IsReplacement n block (elimination_of n block)
+pub elimination_replaces : (n : ℕ) (block : List Flip) → AreFlipsOn n block → IsBlock n block → IsReplacement n block (elimination_of n block)
 elimination_replaces n block on is =
     let does = eliminated_replaces n (touched n block) (map addition_of block) (touched_lines n block on)
     (additions_within n (touched n block) block on is.cxs (λ x any. in_touched n x block on any)) in
@@ -190,7 +179,7 @@ turn_goes_on n start flips settled now so_far is goes =
     follows_further n start settled now (follows_further n start flips settled so_far (subst (Follows n flips) (sym is)
     (settled_follows n flips so_far.on))) goes.follows
 
-pub turn_less : (n : ℕ) (flips settled now : List Flip) → AreOnLines n flips → settled ≡ reverse (with_flips flips []) → GoesOn n settled now
+pub turn_less : (n : ℕ) (flips settled now : List Flip) → AreFlipsOn n flips → settled ≡ reverse (with_flips flips []) → GoesOn n settled now
     → length now < length flips
 turn_less n flips settled now on is goes =
     let few = (settled_follows n flips on).few in let less = goes.less in omega (arith, ap length is, few, less)
@@ -210,40 +199,7 @@ work_done n start flips settled so_far is short =
       };
     }
 
--- ---- gates as flips, and back
-
-few_controls : (c : Controls) → length (lines_in c) ≤ 2
-few_controls Zero = omega arith
-few_controls (One a) = omega arith
-few_controls (Two a b) = omega arith
-
-pub flips_are_narrow : (flips : List Flip) → AreNarrow (gates_of flips)
-flips_are_narrow [] = tt
-flips_are_narrow (f ∷ fs) = (
-  record { controls = controls_of f; target = f.target; few = few_controls f.controls; is_flip = refl },
-  flips_are_narrow fs,
-)
-
-pub on_lines_from : (n : ℕ) (flips : List Flip) (gates : List GateView) → gates_of flips ≡ gates → AreGatesOn n gates → AreOnLines n flips
-on_lines_from n flips gates e on = back flips (subst (AreGatesOn n) (sym e) on)
-  where
-    back : (flips : List Flip) → AreGatesOn n (gates_of flips) → AreOnLines n flips
-    back [] on = tt
-    back (f ∷ fs) on = (on.0, back fs on.1)
-
-pub split_again : (n limit : ℕ) (flips : List Flip) (gates : List GateView) → length flips ≤ limit → IsSplitList n limit (gates_of flips) gates
-    → gates ≡ gates_of flips
-split_again n limit flips gates few is =
-    let stays = stay n limit (gates_of flips) (flips_are_narrow flips) (omega (arith, few, length-map flips gate_of)) in
-    same_Some _ _ (sym is.is ∙ stays.is)
-
--- such gates are split, so their split is not refused
-pub never_refused : {A : Type 0} (n limit : ℕ) (flips : List Flip) (gates : List GateView) (fault : SplitFault) → gates ≡ gates_of flips → length flips ≤ limit
-    → IsSplit n limit gates (Err fault) → A
-never_refused n limit flips gates fault are few is =
-    let ok : IsSplitList n limit gates gates =
-    rw are (stay n limit (gates_of flips) (flips_are_narrow flips) (omega (arith, few, length-map flips gate_of))) in
-    let both = one_split n limit gates (Ok gates) (Err fault) ok is in absurd (cc)
+-- ---- the gates that are left
 
 -- there is room for as many flips as there are gates
 pub few_done : (n limit : ℕ) (old : List GateView) (flips done : List Flip) → gates_of flips ≡ old → limit ≡ length old → IsDone n flips done
@@ -253,22 +209,11 @@ few_done n limit old flips done are size is =
     let long : length flips ≡ length old = sym (length-map flips gate_of) ∙ ap length are in
     omega (arith, few, long, size)
 
--- and for the next of them
-pub room_for : (limit i : ℕ) (flips : List Flip) (circuit : CircuitView) → length flips ≤ limit → i < length flips
-    → circuit ≡ record { lines = circuit.lines; limit = limit; gates = gates_of (take i flips) } → length circuit.gates < circuit.limit
-room_for limit i flips circuit few low is =
-    let gates : length circuit.gates ≡ length (take i flips) = ap (λ (c : CircuitView). length c.gates) is ∙ length-map (take i flips) gate_of in
-    let most : circuit.limit ≡ limit = ap (λ (c : CircuitView). c.limit) is in
-    let cut : length (take i flips) ≡ i = length-take-le i flips (omega (arith, low)) in
-    omega (arith, few, low, gates, most, cut)
-
-pub tidied_from : (n limit : ℕ) (old : List GateView) (flips done : List Flip) (gates : List GateView) → gates_of flips ≡ old → limit ≡ length old
-    → IsDone n flips done
-    → IsSplitList n limit (gates_of done) gates → IsTidied n old gates
-tidied_from n limit old flips done gates are size is split =
+pub tidied_from : (n : ℕ) (old : List GateView) (flips done : List Flip) (gates : List GateView) → gates_of flips ≡ old → IsDone n flips done
+    → gates ≡ gates_of done → IsTidied n old gates
+tidied_from n old flips done gates are is same =
     let few = is.follows.few in
     let long : length flips ≡ length old = sym (length-map flips gate_of) ∙ ap length are in
-    let same = split_again n limit done gates (omega (arith, few, long, size)) split in
     record {
       flips = done;
       are = same;
@@ -276,24 +221,6 @@ tidied_from n limit old flips done gates are size is split =
       few = omega (arith, ap length same, length-map done gate_of, few, long);
       same = λ bits size_of. ap (λ gs. line_map gs bits) same ∙ is.follows.same bits size_of ∙ ap (λ gs. line_map gs bits) are;
     }
-
--- ---- one gate
-
-lines_again : (lines : List ℕ) → map (λ (control : Control). control.line) (map positive lines) ≡ lines
-lines_again [] = refl
-lines_again (x ∷ xs) = ap (λ l. x ∷ l) (lines_again xs)
-
-same_flip : (t u : ℕ) (op : Op) → Op_flip t ≡ op → Op_flip u ≡ op → t ≡ u
-same_flip t u op e f = let both : Op_flip t ≡ Op_flip u = e ∙ sym f in cc
-
-pub flip_is : (gate : GateView) (controls : Controls) (target : ℕ) (seen : List Control) → IsNarrow gate
-    → lines_in controls ≡ map (λ (control : Control). control.line) seen
-    → seen ≡ gate.controls → Op_flip target ≡ gate.op → gate_of (record { controls = controls; target = target }) ≡ gate
-flip_is gate controls target seen narrow lines same op =
-    let all : lines_in controls ≡ narrow.controls =
-    lines ∙ ap (map (λ (control : Control). control.line)) (same ∙ ap (λ (g : GateView). g.controls) narrow.is_flip) ∙ lines_again narrow.controls in
-    let at : target ≡ narrow.target = same_flip target narrow.target gate.op op (sym (ap (λ (g : GateView). g.op) narrow.is_flip)) in
-    ap (λ l. flip_of l target) all ∙ ap (flip_of narrow.controls) at ∙ sym narrow.is_flip
 
 -- ---- what a look answers
 
@@ -303,5 +230,5 @@ at_none o P Q e match = subst (λ p. MatchOption p P Q) e match
 pub at_some : {A : Type 0} (o : Option A) (x : A) (P : Type 0) (Q : A → Type 0) → o ≡ Some x → MatchOption o P Q → Q x
 at_some o x P Q e match = subst (λ p. MatchOption p P Q) e match
 
-pub settled_on : (n : ℕ) (flips settled : List Flip) → AreOnLines n flips → settled ≡ reverse (with_flips flips []) → AreOnLines n settled
-settled_on n flips settled on is = subst (AreOnLines n) (sym is) (settled_follows n flips on).on
+pub settled_on : (n : ℕ) (flips settled : List Flip) → AreFlipsOn n flips → settled ≡ reverse (with_flips flips []) → AreFlipsOn n settled
+settled_on n flips settled on is = subst (AreFlipsOn n) (sym is) (settled_follows n flips on).on

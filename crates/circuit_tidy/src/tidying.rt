@@ -1,19 +1,13 @@
 // The whole work on a circuit.
-ghost use Rattle.std.specs.Prelude.{◌≡◌, ◌↔◌, ◌≤◌, ◌<◌, ◌++◌, ◌∷◌, [], length, map, IfOk, OnOk};
-ghost use Rattle.std.specs.Prelude.{IsErrOf};
-ghost use Rattle.std.specs.List.{AllByRecursion};
-ghost use Rattle.mct_circuit.specs.Gates.{AreNarrow, IsGateOn, IsNarrow};
-ghost use Rattle.flip_lists.specs.Flips.{gate_of, gates_of, lines_in};
+ghost use Rattle.std.specs.Prelude.{◌≡◌, length, IfOk};
+ghost use Rattle.flip_lists.specs.Flips.{AreFlipsOn};
 ghost use Rattle.circuit_tidy.specs.Tidied.{IsTidied};
-ghost use Rattle.circuit_tidy.specs.inside.Walking.{AreOnLines};
 ghost use Rattle.circuit_tidy.specs.inside.Work.{IsDone};
 
 use crate::blocks::first_longer;
 use crate::sweep::swept;
 use circuit_plans::Narrow;
-use flip_lists::{Controls, Flip, settled};
-use gate_split::{SplitFault, split};
-use mct_circuit::{Circuit, Control, Gate, GateFault, Op};
+use flip_lists::{Flip, circuit_of, flips_of, settled};
 use revc_base::Memory;
 use std::alloc::Global;
 
@@ -35,18 +29,13 @@ pub fn tidy(alloc: Global, narrow: &Narrow) -> Result<Narrow, Memory>
     let limit = circuit.len();
     let flips = flips_of(alloc, circuit.gates())?;
     let flips = tidied(alloc, lines, flips)?;
-    let tidied = circuit_of(alloc, lines, limit, &flips)?;
-    match split(alloc, &tidied, lines, limit) {
-        Ok(narrow) => Ok(narrow),
-        Err(SplitFault::Memory(memory)) => Err(memory),
-        Err(SplitFault::NoIdle { .. }) => unreachable!(),
-        Err(SplitFault::Gates) => unreachable!(),
-    }
+    let circuit = circuit_of(alloc, lines, limit, &flips)?;
+    Ok(Narrow::new(circuit))
 }
 
 // The flips without pairs that cancel and blocks that are longer than their eliminations.
 fn tidied(alloc: Global, lines: u32, mut flips: Vec<Flip>) -> Result<Vec<Flip>, Memory>
-    requires { AreOnLines lines flips.items }
+    requires { AreFlipsOn lines flips.items }
     ensures { IfOk result (λ tidied. IsDone lines flips.items tidied.items) }
 {
     'work: loop {
@@ -56,80 +45,5 @@ fn tidied(alloc: Global, lines: u32, mut flips: Vec<Flip>) -> Result<Vec<Flip>, 
             None => return Ok(settled),
             Some(longer) => flips = swept(alloc, lines, settled, &longer)?,
         }
-    }
-}
-
-fn flips_of(alloc: Global, gates: &[Gate]) -> Result<Vec<Flip>, Memory>
-    requires { AreNarrow gates.now }
-    ensures { IfOk result (λ flips. gates_of flips.items ≡ gates.now) }
-{
-    let mut flips = Vec::with_capacity(alloc, gates.len())?;
-    for gate in gates {
-        flips.push(flip_of(gate))?;
-    }
-    Ok(flips)
-}
-
-fn flip_of(gate: &Gate) -> Flip
-    requires { IsNarrow gate.now }
-    ensures { gate_of result ≡ gate.now }
-{
-    let controls = controls_of(gate.controls());
-    match gate.op() {
-        Op::Flip(target) => Flip { controls, target },
-        Op::Swap(target, _) => Flip { controls, target },
-    }
-}
-
-fn controls_of(controls: &[Control]) -> Controls
-    requires { length controls.now ≤ 2 }
-    ensures { lines_in result ≡ map (λ control. control.line) controls.now }
-{
-    match controls {
-        [] => Controls::Zero,
-        [one] => Controls::One(one.line),
-        [first, second, ..] => Controls::Two(first.line, second.line),
-    }
-}
-
-// The circuit of flips for which there is room.
-fn circuit_of(alloc: Global, lines: u32, limit: u64, flips: &[Flip]) -> Result<Circuit, Memory>
-    requires lines { AreOnLines lines flips.now }
-    requires room { length flips.now ≤ limit }
-    ensures { IfOk result (λ circuit. circuit
-        ≡ record { lines = lines; limit = limit; gates = gates_of flips.now }) }
-{
-    let mut circuit = Circuit::new(alloc, lines, limit);
-    for flip in flips {
-        push(&mut circuit, *flip)?;
-    }
-    Ok(circuit)
-}
-
-// Appends a flip for which there is room.
-fn push(circuit: &mut Circuit, flip: Flip) -> Result<(), Memory>
-    requires on { IsGateOn circuit.old.lines (gate_of flip) }
-    requires room { length circuit.old.gates < circuit.old.limit }
-    ensures { OnOk result (circuit.new ≡ record circuit.old
-        { gates = circuit.old.gates ++ gate_of flip ∷ [] }) }
-{
-    match push_flip(circuit, flip) {
-        Ok(()) => Ok(()),
-        Err(GateFault::Memory(memory)) => Err(memory),
-        Err(GateFault::Full) => unreachable!(),
-    }
-}
-
-fn push_flip(circuit: &mut Circuit, flip: Flip) -> Result<(), GateFault>
-    requires { IsGateOn circuit.old.lines (gate_of flip) }
-    ensures ok { OnOk result (circuit.new ≡ record circuit.old
-        { gates = circuit.old.gates ++ gate_of flip ∷ [] }) }
-    ensures full { IsErrOf result GateFault.Full
-        ↔ (length circuit.old.gates ≡ circuit.old.limit) }
-{
-    match flip.controls {
-        Controls::Zero => circuit.push_flip(&[], flip.target),
-        Controls::One(one) => circuit.push_flip(&[one], flip.target),
-        Controls::Two(first, second) => circuit.push_flip(&[first, second], flip.target),
     }
 }

@@ -1,4 +1,5 @@
 pub mod FlipLemmas
+pub mod GateLemmas
 pub mod IndexLemmas
 pub mod LookLemmas
 pub mod MarkLemmas

@@ -1,8 +1,8 @@
 -- Flips under at most two controls: their gates, which two are alike, and which are free of each
 -- other.
 use Rattle.std.specs.Prelude.{ℕ, Bool, true, false, not, ◌==◌, ◌&&◌, ◌||◌, List, [], ◌∷◌, map}
-use Rattle.std.specs.List.{list_all}
-use Rattle.mct_circuit.specs.Gates.{GateView, flip_of}
+use Rattle.std.specs.List.{AllByRecursion, list_all}
+use Rattle.mct_circuit.specs.Gates.{GateView, IsGateOn, flip_of}
 use Rattle.mct_circuit.specs.Sizes.{has_line}
 use Rattle.flip_lists.specs.declared.flip.Controls.{Controls}
 use Rattle.flip_lists.specs.declared.flip.Controls.TheVariants.{Zero, One, Two}
@@ -23,6 +23,9 @@ gate_of flip = flip_of (controls_of flip) flip.target
 
 abbrev pub gates_of : List Flip → List GateView
 gates_of flips = map gate_of flips
+
+abbrev pub AreFlipsOn : ℕ → List Flip → Type 0
+AreFlipsOn n flips = AllByRecursion (λ flip. IsGateOn n (gate_of flip)) flips
 
 -- ---- two flips
 

@@ -3,8 +3,7 @@ use Rattle.std.specs.Prelude.{◌≡◌, ℕ, ◌+◌, ◌≤◌, true, List, []
 use Rattle.std.specs.List.{AllByRecursion}
 use Rattle.flip_lists.specs.declared.flip.Flip.{Flip}
 use Rattle.circuit_tidy.specs.declared.sweep.Sweep.{Sweep}
-use Rattle.flip_lists.specs.Flips.{are_alike, are_free}
-use Rattle.circuit_tidy.specs.inside.Walking.{AreOnLines}
+use Rattle.flip_lists.specs.Flips.{AreFlipsOn, are_alike, are_free}
 use Rattle.circuit_tidy.specs.inside.Work.{Follows, GoesOn}
 
 -- those that were walked over, and those still to come
@@ -23,13 +22,13 @@ pub record IsBegun (flips : List Flip) (sweep : Sweep) : Type 0 where
 pub record Leads (old new : Sweep) : Type 0 where
   pub within : IsWithin new
   pub long : length new.flips.items ≡ length old.flips.items
-  pub follows : (n : ℕ) → AreOnLines n (contents old) → Follows n (contents old) (contents new)
+  pub follows : (n : ℕ) → AreFlipsOn n (contents old) → Follows n (contents old) (contents new)
 
 -- and are fewer
 pub record LeadsOn (old new : Sweep) : Type 0 where
   pub within : IsWithin new
   pub long : length new.flips.items ≡ length old.flips.items
-  pub goes_on : (n : ℕ) → AreOnLines n (contents old) → GoesOn n (contents old) (contents new)
+  pub goes_on : (n : ℕ) → AreFlipsOn n (contents old) → GoesOn n (contents old) (contents new)
 
 -- the flips are the same
 pub record Stays (old new : Sweep) : Type 0 where

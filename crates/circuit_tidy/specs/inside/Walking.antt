@@ -4,7 +4,6 @@ use Rattle.std.specs.Prelude.{take, drop, slice_index, ◌-◌, ⊤}
 use Rattle.std.specs.List.{AllByRecursion, list_any}
 use Rattle.std.specs.Global.{Vec}
 use Rattle.list_facts.specs.Lists.{IsRising}
-use Rattle.mct_circuit.specs.Gates.{IsGateOn}
 use Rattle.mct_circuit.specs.Sizes.{has_line}
 use Rattle.circuit_tidy.specs.declared.blocks.Block.{Block}
 use Rattle.circuit_tidy.specs.declared.blocks.Front.{Front}
@@ -12,10 +11,7 @@ use Rattle.circuit_tidy.specs.declared.blocks.Longer.{Longer}
 use Rattle.circuit_tidy.specs.declared.blocks.TheConstants.{MOST_BLOCK_LINES}
 use Rattle.flip_lists.specs.declared.flip.Flip.{Flip}
 use Rattle.circuit_tidy.specs.Blocks.{AreBlocks, IsBlock, IsNoLonger, elimination_of, one_line}
-use Rattle.flip_lists.specs.Flips.{gate_of, is_cx, touches}
-
-abbrev pub AreOnLines : ℕ → List Flip → Type 0
-AreOnLines n flips = AllByRecursion (λ flip. IsGateOn n (gate_of flip)) flips
+use Rattle.flip_lists.specs.Flips.{AreFlipsOn, is_cx, touches}
 
 -- ---- lines that are touched
 
@@ -73,16 +69,16 @@ pub record HaveShortBlocks (n : ℕ) (flips : List Flip) : Type 0 where
   pub short : AllByRecursion (IsNoLonger n) blocks
 
 pub record AreShort (flips : List Flip) : Type 0 where
-  pub blocks : (n : ℕ) → AreOnLines n flips → HaveShortBlocks n flips
+  pub blocks : (n : ℕ) → AreFlipsOn n flips → HaveShortBlocks n flips
 
 -- the block is longer than its elimination, which these flips are
 pub record IsLonger (block shorter : List Flip) : Type 0 where
-  pub is : (n : ℕ) → AreOnLines n block → IsBlock n block × (shorter ≡ elimination_of n block)
+  pub is : (n : ℕ) → AreFlipsOn n block → IsBlock n block × (shorter ≡ elimination_of n block)
   pub few : length shorter < length block
 
 -- what is passed over at the start: with short blocks behind it the flips have short blocks
 pub record IsPassed (flips : List Flip) (count : ℕ) : Type 0 where
-  pub blocks : (n : ℕ) → AreOnLines n flips → HaveShortBlocks n (drop count flips)
+  pub blocks : (n : ℕ) → AreFlipsOn n flips → HaveShortBlocks n (drop count flips)
       → HaveShortBlocks n flips
 
 abbrev pub IsFrontAnswer : List Flip → ℕ → Option (Vec Flip) → Type 0

@@ -1,5 +1,5 @@
-use Rattle.circuit_tidy.proofs.TidyLemmas.{flip_is}
-use Rattle.circuit_tidy.proofs.tidying.flip_of.Goals as goal
+use Rattle.flip_lists.proofs.GateLemmas.{flip_is}
+use Rattle.flip_lists.proofs.circuits.flip_of.Goals as goal
 
 pub returns-in-Flip : goal.returns-in-Flip
 returns-in-Flip c =
