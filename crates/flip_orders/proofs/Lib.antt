@@ -1,0 +1,4 @@
+pub mod CircuitLemmas
+pub mod OrderLemmas
+pub mod ReorderingLemmas
+pub mod StepLemmas

@@ -1,0 +1,4 @@
+-- What only private contracts and proofs cite.
+pub mod Depths
+pub mod Orders
+pub mod Steps
