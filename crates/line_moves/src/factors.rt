@@ -20,16 +20,6 @@ struct Gathered {
     on: u32,
 }
 
-impl Gathered {
-    // The factor as it is behind the copies that gather it.
-    fn alone(self) -> Gathered {
-        Gathered {
-            lines: Part::NONE,
-            on: self.on,
-        }
-    }
-}
-
 // Both factors of a product.
 #[derive(Clone, Copy)]
 struct Both {
@@ -43,7 +33,16 @@ impl Writing {
         let mut gatherings = Vec::new(self.moves.room.alloc);
         let both = self.choose(0, own);
         self.hold(0, both);
-        self.push_gatherings(&mut gatherings, both.first.alone(), both.second.alone());
+        let none = Part::NONE;
+        let first = Gathered {
+            lines: none,
+            ..both.first
+        };
+        let second = Gathered {
+            lines: none,
+            ..both.second
+        };
+        self.push_gatherings(&mut gatherings, first, second);
         gatherings
     }
 
@@ -238,13 +237,11 @@ impl Writing {
             return part;
         }
         let mut lines = self.moves.room.copy(lines);
-        match lines.binary_search(&from) {
-            Ok(place) => {
-                lines.remove(place);
-            }
-            Err(place) => {
-                self.moves.room.note(lines.insert(place, from));
-            }
+        if let Ok(place) = lines.binary_search(&from) {
+            lines.remove(place);
+        } else {
+            self.moves.room.push(&mut lines, from);
+            lines.sort_unstable();
         }
         self.part(&lines)
     }

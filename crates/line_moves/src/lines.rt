@@ -43,13 +43,6 @@ pub struct Product {
     pub second: Factor,
 }
 
-impl Product {
-    /// Whether a node is written out in it.
-    pub fn is_written(&self) -> bool {
-        !self.first.written.is_empty() || !self.second.written.is_empty()
-    }
-}
-
 /// Whether all lines of `some` are among `others`, which rise.
 pub fn are_among(some: &[u32], others: &[u32]) -> bool {
     common(some, others) == some.len()

@@ -1,7 +1,7 @@
 // Nodes that take the places of their bits on the lines of factors.
-use crate::lines::{Factor, Product};
+use crate::lines::{Factor, Part, Product};
 use crate::writing::Writing;
-use plan_tools::{Echelon, NOWHERE, Stop, Work, number};
+use plan_tools::{Echelon, Work, number};
 use std::alloc::Global;
 
 /// In how many products of one toggle nodes may be written out.
@@ -11,49 +11,23 @@ const MOST_PRODUCTS: usize = 256;
 const MOST_WORK: u64 = 1_000_000;
 
 impl Writing {
-    // The nodes that are written out in factors, each with lines: toggled onto these, it takes the
-    // place of its bits in that factor, and in no other one.
-    pub(crate) fn names(&mut self) -> Vec<(u32, u32)> {
-        let alloc = self.moves.room.alloc;
-        if !self.products.iter().any(Product::is_written) {
-            return Vec::new(alloc);
+    // The nodes that are written out in factors, each list with a line: toggled onto its lines, a
+    // node takes the place of its bits in that factor, and in no other one.
+    pub(crate) fn names(&mut self) -> Vec<(Part, u32)> {
+        if !self.is_written {
+            return Vec::new(self.moves.room.alloc);
         }
-        match names_in(alloc, &self.products, &self.numbers) {
-            Ok(names) => names,
-            Err(stop) => {
-                self.moves.stop(stop);
-                Vec::new(alloc)
-            }
+        if self.products.len() > MOST_PRODUCTS {
+            self.moves.room.give_up();
         }
+        let mut parities = Parities::of(self.moves.room.alloc, &self.products, &self.numbers);
+        parities.put_all();
+        parities.name_all();
+        if let Err(stop) = parities.work.finish(()) {
+            self.moves.stop(stop);
+        }
+        parities.names
     }
-}
-
-fn names_in<'w>(
-    alloc: Global,
-    products: &'w [Product],
-    numbers: &'w [u32],
-) -> Result<Vec<(u32, u32)>, Stop> {
-    if products.len() > MOST_PRODUCTS {
-        return Err(Stop::GaveUp);
-    }
-    let mut parities = Parities::of(alloc, products, numbers);
-    parities.put_all();
-    for (k, product) in products.iter().enumerate() {
-        let k = number(k);
-        parities.name(first_of(k), product.first);
-        parities.name(second_of(k), product.second);
-    }
-    let names = parities.names;
-    parities.work.finish(names)
-}
-
-// The factors of a product, by their places.
-fn first_of(product: u32) -> u32 {
-    product.saturating_mul(2)
-}
-
-fn second_of(product: u32) -> u32 {
-    first_of(product).saturating_add(1)
 }
 
 // Rows of symbols, the lines of factors and, behind these, the factors: a set of lines, and the
@@ -65,8 +39,8 @@ struct Parities<'w> {
     /// The lines of all factors, rising.
     lines: Vec<u32>,
     rows: Echelon,
-    /// Nodes with lines onto which they are toggled.
-    names: Vec<(u32, u32)>,
+    /// Nodes, each list with a line onto which they are toggled.
+    names: Vec<(Part, u32)>,
     work: Work,
 }
 
@@ -87,38 +61,41 @@ impl<'w> Parities<'w> {
         }
     }
 
-    // The symbol of a factor.
-    fn symbol(&self, factor: u32) -> u32 {
-        number(self.lines.len()).saturating_add(factor)
+    // The symbol of a product's first factor; that of the second one comes behind it.
+    fn symbol(&self, product: usize) -> u32 {
+        number(self.lines.len().saturating_add(product.saturating_mul(2)))
     }
 
     // Puts a row for each line, unless its factors are those of other rows together: the lines that
     // the fewest factors have first.
     fn put_all(&mut self) {
-        let mut vectors = self.vectors();
-        self.work.note(vectors.sort_by_key(|vector| vector.len()));
-        for vector in &vectors {
-            self.put(vector);
+        let mut vectors = self.work.lists(self.lines.len());
+        self.fill(&mut vectors);
+        let mut order = Vec::new(self.work.alloc);
+        for place in 0..vectors.len() {
+            self.work.push(&mut order, (vectors[place].len(), place));
+        }
+        order.sort_unstable();
+        for (_, place) in &order {
+            if *place < vectors.len() {
+                self.put(&mut vectors[*place], number(*place));
+            }
         }
     }
 
-    // Of each line the symbols of the factors that have it, falling, and its own.
-    fn vectors(&mut self) -> Vec<Vec<u32>> {
-        let mut vectors = self.work.lists(self.lines.len());
-        for (k, product) in self.products.iter().enumerate().rev() {
-            let k = number(k);
-            self.push_factor(&mut vectors, second_of(k), product.second);
-            self.push_factor(&mut vectors, first_of(k), product.first);
+    // Of each line the symbols of the factors that have it, falling.
+    fn fill(&mut self, vectors: &mut [Vec<u32>]) {
+        let products = self.products;
+        for k in (0..products.len()).rev() {
+            let symbol = self.symbol(k);
+            let Product { first, second } = products[k];
+            self.push_symbol(vectors, second, symbol.saturating_add(1));
+            self.push_symbol(vectors, first, symbol);
         }
-        for (place, vector) in vectors.iter_mut().enumerate() {
-            self.work.push(vector, number(place));
-        }
-        vectors
     }
 
     // Puts the symbol of a factor behind those before it at each of its lines.
-    fn push_factor(&mut self, vectors: &mut [Vec<u32>], k: u32, factor: Factor) {
-        let symbol = self.symbol(k);
+    fn push_symbol(&mut self, vectors: &mut [Vec<u32>], factor: Factor, symbol: u32) {
         for line in factor.lines.of(self.numbers) {
             if let Ok(place) = self.lines.binary_search(line)
                 && place < vectors.len()
@@ -128,7 +105,9 @@ impl<'w> Parities<'w> {
         }
     }
 
-    fn put(&mut self, vector: &[u32]) {
+    // Puts a row of these symbols of factors, and of that of a line.
+    fn put(&mut self, vector: &mut Vec<u32>, line: u32) {
+        self.work.push(vector, line);
         let reduced = self.rows.reduced(&mut self.work, vector);
         if let Some(head) = reduced.left.first()
             && *head >= self.symbol(0)
@@ -138,28 +117,26 @@ impl<'w> Parities<'w> {
         }
     }
 
-    // Pairs the nodes of a factor with each of the lines of which it alone has an odd number.
-    fn name(&mut self, k: u32, factor: Factor) {
-        if factor.written.is_empty() {
-            return;
-        }
-        let symbol = self.symbol(k);
-        let reduced = self.rows.reduced(&mut self.work, &[symbol]);
-        for place in &reduced.left {
-            let line = self.line(*place);
-            for node in factor.written.of(self.numbers) {
-                self.work.push(&mut self.names, (*node, line));
-            }
+    fn name_all(&mut self) {
+        let products = self.products;
+        for k in 0..products.len() {
+            let symbol = self.symbol(k);
+            let Product { first, second } = products[k];
+            self.name(first, symbol);
+            self.name(second, symbol.saturating_add(1));
         }
     }
 
-    // The line of a symbol.
-    fn line(&mut self, symbol: u32) -> u32 {
-        match self.lines.get(symbol as usize) {
-            Some(line) => *line,
-            None => {
-                self.work.give_up();
-                NOWHERE
+    // Pairs the nodes of a factor with each of the lines of which it alone has an odd number.
+    fn name(&mut self, factor: Factor, symbol: u32) {
+        if factor.written.is_empty() {
+            return;
+        }
+        let reduced = self.rows.reduced(&mut self.work, &[symbol]);
+        for place in &reduced.left {
+            match self.lines.get(*place as usize) {
+                Some(line) => self.work.push(&mut self.names, (factor.written, *line)),
+                None => self.work.give_up(),
             }
         }
     }

@@ -1,5 +1,5 @@
 // Copies that moves can do without.
-use crate::moves::{Gathering, Move, Moves};
+use crate::moves::{Gathering, Gatherings, Move, Moves};
 use plan_tools::{NOWHERE, Table, Work, list_at, number};
 
 /// How many copies to one line are looked through for one that stands there again.
@@ -41,13 +41,7 @@ fn passed(moves: &mut Moves, lines: u32) -> Vec<Move> {
                 onto,
                 place: gathered,
                 ..
-            } => {
-                for both in list_at(&moves.gatherings, gathered) {
-                    pass.read_gathered(place, &both.first);
-                    pass.read_gathered(place, &both.second);
-                }
-                pass.change(place, onto);
-            }
+            } => pass.toggle(place, onto, list_at(&moves.gatherings, gathered)),
         }
         place = place.saturating_add(1);
     }
@@ -199,14 +193,14 @@ impl<'m> Pass<'m> {
     fn meets(&mut self, other: u32, place: u32, from: u32, to: u32) -> bool {
         match self.between(other, from, to) {
             Between::Nothing => {}
-            Between::One(between) => match self.beside(between, from, to) {
-                Some(edit) => {
-                    self.edits.set(between, edit);
-                    // What the copies did is done between them now: no pair meets over that.
-                    self.note(place, from, to);
-                }
-                None => return false,
-            },
+            Between::One(between) => {
+                let Some(edit) = self.beside(between, from, to) else {
+                    return false;
+                };
+                self.edits.set(between, edit);
+                // What the copies did is done between them now: no pair meets over that.
+                self.note(place, from, to);
+            }
             Between::More => return false,
         }
         self.edits.set(other, Edit::Go);
@@ -252,21 +246,27 @@ impl<'m> Pass<'m> {
         matches!(self.edits.get(place), Edit::Stay)
     }
 
-    // The copy that stands for two copies of `from` to `to` beside the copy between them.
+    // The copy that stands for two copies of `from` to `to` beside the copy between them, which
+    // reads `to` or changes `from`.
     fn beside(&self, between: u32, from: u32, to: u32) -> Option<Edit> {
         if !self.stays(between) {
             return None;
         }
-        match *self.list.get(between as usize)? {
-            Move::Copy {
-                from: source,
-                to: target,
-            } if source != to || target != from => Some(if source == to {
-                Edit::With { from, to: target }
-            } else {
-                Edit::With { from: source, to }
-            }),
-            _ => None,
+        let (source, target) = self.ends(between);
+        if source == to && target != from {
+            Some(Edit::With { from, to: target })
+        } else if source != to && target == from {
+            Some(Edit::With { from: source, to })
+        } else {
+            None
+        }
+    }
+
+    // The lines of the copy at a place.
+    fn ends(&self, place: u32) -> (u32, u32) {
+        match self.list.get(place as usize) {
+            Some(Move::Copy { from, to }) => (*from, *to),
+            _ => (NOWHERE, NOWHERE),
         }
     }
 
@@ -286,6 +286,14 @@ impl<'m> Pass<'m> {
     fn note(&mut self, place: u32, from: u32, to: u32) {
         self.read(place, from);
         self.change(place, to);
+    }
+
+    fn toggle(&mut self, place: u32, onto: u32, gatherings: &[Gatherings]) {
+        for both in gatherings {
+            self.read_gathered(place, &both.first);
+            self.read_gathered(place, &both.second);
+        }
+        self.change(place, onto);
     }
 
     fn read_gathered(&mut self, place: u32, gathering: &Gathering) {

@@ -12,6 +12,8 @@ pub struct Writing {
     /// The products of the next toggle, and the lists of their factors.
     pub(crate) products: Vec<Product>,
     pub(crate) numbers: Vec<u32>,
+    /// Whether nodes are written out in its factors.
+    pub(crate) is_written: bool,
     /// The copies around the next toggle, each from a line to another.
     pub(crate) copies: Vec<(u32, u32)>,
     /// Of each line the lines that were gathered on it the last time.
@@ -27,6 +29,7 @@ impl Writing {
             moves,
             products: Vec::new(alloc),
             numbers: Vec::new(alloc),
+            is_written: false,
             copies: Vec::new(alloc),
             habits,
         }
@@ -35,6 +38,9 @@ impl Writing {
     /// A factor of a product of the next toggle: the sum of these lines, which rise. Nodes without
     /// products that are written out in it have their bits on its lines.
     pub fn factor(&mut self, lines: &[u32], written: &[u32]) -> Factor {
+        if !written.is_empty() {
+            self.is_written = true;
+        }
         Factor {
             lines: self.part(lines),
             written: self.part(written),
@@ -45,11 +51,6 @@ impl Writing {
     pub(crate) fn part(&mut self, numbers: &[u32]) -> Part {
         let start = self.numbers.len();
         self.moves.room.append(&mut self.numbers, numbers);
-        self.part_from(start)
-    }
-
-    // The numbers from a place on.
-    pub(crate) fn part_from(&self, start: usize) -> Part {
         Part {
             start,
             end: self.numbers.len(),
@@ -78,13 +79,16 @@ impl Writing {
         self.copy_back(own);
         self.products.clear();
         self.numbers.clear();
+        self.is_written = false;
         self.copies.clear();
     }
 
     // Toggles nodes without products onto lines.
-    fn name_all(&mut self, names: &[(u32, u32)]) {
-        for (node, line) in names {
-            self.moves.name(*node, *line);
+    fn name_all(&mut self, names: &[(Part, u32)]) {
+        for (nodes, line) in names {
+            for node in nodes.of(&self.numbers) {
+                self.moves.name(*node, *line);
+            }
         }
     }
 
@@ -96,9 +100,10 @@ impl Writing {
 
     // The same backward, but for the copies to the lines `own`.
     fn copy_back(&mut self, own: &[u32]) {
-        for (from, to) in self.copies.iter().rev() {
-            if !own.contains(to) {
-                self.moves.copy(*from, *to);
+        for k in (0..self.copies.len()).rev() {
+            let (from, to) = self.copies[k];
+            if !own.contains(&to) {
+                self.moves.copy(from, to);
             }
         }
     }
