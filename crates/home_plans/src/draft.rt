@@ -1,118 +1,108 @@
-// Plans in the making, before they have gates: which nodes stand on which lines.
-use crate::table::Table;
+// Plans in the making, before they have moves: which nodes stand on which lines.
+use crate::nodes::Nodes;
 use crate::weight::Weight;
-use circuit_plans::{Budget, PlanFault};
+use plan_tools::{FreeLines, Limits, NOWHERE, Stop, Table, Work};
 use std::alloc::Global;
-use std::cmp::Reverse;
-use std::collections::BinaryHeap;
 
 /// A toggle of a node onto a line.
 #[derive(Clone, Copy)]
-pub struct Move {
+pub struct Toggle {
     pub node: u32,
     pub line: u32,
 }
 
-/// What a plan comes to: its Toffoli gates, its lines times its gates, and its lines. The better of
-/// two plans is the one that comes to less, at the first of them where they differ.
+/// What a plan comes to. The better of two plans is the one that comes to less, at the first of
+/// these numbers where they differ.
 #[derive(Clone, Copy, PartialEq, Eq, PartialOrd, Ord)]
 pub struct Size {
-    toffoli: u64,
-    area: u64,
-    lines: u32,
+    pub toffoli: u64,
+    /// Lines times gates.
+    pub area: u64,
+    pub lines: u32,
 }
 
 // The most looks at nodes that are taken for a draft.
 const MOST_LOOKS: u64 = 5_000_000;
 
 /// The forward part of a plan, seen by its toggles: nodes are held on lines and cleared again. A
-/// node with a home is held there and stays. The others take the least free work line.
+/// node with a home is held there and stays. The others take the least free work line. No call
+/// fails: the first refusal is kept, and told by `finish`.
 #[derive(Drop)]
-pub struct Draft<'t> {
-    table: &'t Table,
+pub struct Draft<'n> {
+    pub nodes: &'n Nodes,
+    /// The toggles, in order.
+    pub toggles: Vec<Toggle>,
+    /// The looks at nodes.
+    pub work: Work,
     most_gates: u64,
-    room: u32,
-    lines: Vec<Option<u32>>,
-    free: BinaryHeap<Reverse<u32>>,
-    work: u32,
-    moves: Vec<Move>,
+    free: FreeLines,
+    /// Of each node the line on which it is held.
+    lines: Table<u32>,
     weight: Weight,
-    looks: u64,
 }
 
-/// A draft, or why there is none within the budget.
-pub type Drafted<'t> = Result<Draft<'t>, PlanFault>;
-
-impl<'t> Draft<'t> {
+impl<'n> Draft<'n> {
     /// The draft that holds nothing yet.
-    pub fn new(alloc: Global, table: &'t Table, budget: &Budget) -> Drafted<'t> {
-        let need = table.ports().saturating_add(budget.borrow());
-        if need > budget.lines() {
-            return Err(PlanFault::Lines { need });
+    pub fn new(alloc: Global, nodes: &'n Nodes, limits: Limits) -> Draft<'n> {
+        let mut work = Work::new(alloc, MOST_LOOKS);
+        let ports = nodes.ports();
+        let room = match limits.work_lines(ports) {
+            Some(room) => room,
+            None => {
+                work.give_up();
+                0
+            }
+        };
+        let lines = Table::new(&mut work, nodes.count as usize, NOWHERE);
+        Draft {
+            nodes,
+            toggles: Vec::new(alloc),
+            work,
+            most_gates: limits.gates,
+            free: FreeLines::new(alloc, ports, ports.saturating_add(room)),
+            lines,
+            weight: nodes.copies,
         }
-        Ok(Draft {
-            table,
-            most_gates: budget.gates(),
-            room: budget.lines() - need,
-            lines: vec![in alloc; None; table.nodes as usize]?,
-            free: BinaryHeap::new(alloc),
-            work: 0,
-            moves: Vec::new(alloc),
-            weight: table.copies,
-            looks: 0,
-        })
-    }
-
-    /// How many work lines were used.
-    pub fn work(&self) -> u32 {
-        self.work
     }
 
     /// How many lines the plan has, without borrowed ones.
     pub fn lines(&self) -> u32 {
-        self.table.ports().saturating_add(self.work)
-    }
-
-    /// The toggles, in order.
-    pub fn moves(&self) -> &[Move] {
-        &self.moves
+        self.free.behind()
     }
 
     /// What the plan comes to.
-    pub fn size(&self) -> Size {
+    ///
+    /// # Errors
+    ///
+    /// Why it is none within its limits.
+    pub fn size(&self) -> Result<Size, Stop> {
         let lines = self.lines();
-        Size {
+        self.work.finish(Size {
             toffoli: self.weight.toffoli,
             area: self.weight.gates.saturating_mul(u64::from(lines)),
             lines,
-        }
+        })
     }
 
     /// Whether no work line is free.
     pub fn is_full(&self) -> bool {
-        self.free.is_empty() && self.work >= self.room
+        self.free.is_empty()
     }
 
+    /// Whether a node is held.
     pub fn is_held(&self, node: u32) -> bool {
-        self.line_of(node).is_some()
-    }
-
-    fn line_of(&self, node: u32) -> Option<u32> {
-        self.lines.get(node as usize).copied().flatten()
+        self.lines.get(node) != NOWHERE
     }
 
     /// Clears a node, where all its operands are held; whether they are.
-    pub fn clear_ready(&mut self, node: u32) -> Result<bool, PlanFault> {
-        let table = self.table;
-        let Some(row) = table.rows.get(node as usize) else {
-            return Ok(false);
-        };
-        self.look(row.operands.len() as u64)?;
-        if !self.are_held(&row.operands) {
-            return Ok(false);
+    pub fn clear_ready(&mut self, node: u32) -> bool {
+        let operands = self.nodes.operands(node);
+        self.work.spend(operands.len() as u64);
+        let are_held = self.are_held(operands);
+        if are_held {
+            self.clear(node);
         }
-        self.clear(node)?;
-        Ok(true)
+        are_held
     }
 
     fn are_held(&self, nodes: &[u32]) -> bool {
@@ -124,62 +114,37 @@ impl<'t> Draft<'t> {
         true
     }
 
-    /// So many looks at nodes more; refused where these are too many.
-    pub fn look(&mut self, looks: u64) -> Result<(), PlanFault> {
-        self.looks = self.looks.saturating_add(looks);
-        if self.looks > MOST_LOOKS {
-            return Err(PlanFault::Gates);
-        }
-        Ok(())
-    }
-
     /// Holds a node, where it is not held already.
-    pub fn hold(&mut self, node: u32) -> Result<(), PlanFault> {
+    pub fn hold(&mut self, node: u32) {
         if self.is_held(node) {
-            return Ok(());
+            return;
         }
-        let line = self.line_for(node)?;
-        self.turn(node, line, Some(line))
+        let line = match self.nodes.home(node) {
+            Some(output) => self.nodes.inputs.saturating_add(output),
+            None => self.free.take(&mut self.work),
+        };
+        self.lines.set(node, line);
+        self.toggle(node, line);
     }
 
     /// Clears a node, where it is held and has no home.
-    pub fn clear(&mut self, node: u32) -> Result<(), PlanFault> {
-        if self.table.home(node).is_some() {
-            return Ok(());
+    pub fn clear(&mut self, node: u32) {
+        let line = self.lines.get(node);
+        if line == NOWHERE || self.nodes.home(node).is_some() {
+            return;
         }
-        let Some(line) = self.line_of(node) else {
-            return Ok(());
-        };
-        self.free.push(Reverse(line))?;
-        self.turn(node, line, None)
+        self.free.give(&mut self.work, line);
+        self.lines.set(node, NOWHERE);
+        self.toggle(node, line);
     }
 
-    // The line on which a node is to be held.
-    fn line_for(&mut self, node: u32) -> Result<u32, PlanFault> {
-        if let Some(output) = self.table.home(node) {
-            return Ok(self.table.inputs.saturating_add(output));
+    // Toggles a node onto a line.
+    fn toggle(&mut self, node: u32, line: u32) {
+        self.work.spend(1);
+        self.weight = self.weight.plus(self.nodes.weight(node));
+        if self.weight.gates > self.most_gates {
+            self.work.give_up();
         }
-        if let Some(Reverse(line)) = self.free.pop() {
-            return Ok(line);
-        }
-        let line = self.table.ports().saturating_add(self.work);
-        if self.work >= self.room {
-            return Err(PlanFault::Lines { need: line });
-        }
-        self.work += 1;
-        Ok(line)
-    }
-
-    // Toggles a node onto a line, and notes where it stands then.
-    fn turn(&mut self, node: u32, line: u32, now: Option<u32>) -> Result<(), PlanFault> {
-        self.look(1)?;
-        self.weight = self.weight.plus(self.table.weight(node));
-        let place = node as usize;
-        if self.weight.gates > self.most_gates || place >= self.lines.len() {
-            return Err(PlanFault::Gates);
-        }
-        self.lines[place] = now;
-        self.moves.push(Move { node, line })?;
-        Ok(())
+        self.work.push(&mut self.toggles, Toggle { node, line });
     }
 }

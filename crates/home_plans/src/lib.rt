@@ -2,12 +2,11 @@
 #![tactic(auto)]
 
 mod draft;
-mod homes;
+mod nodes;
 mod orders;
 mod pebbling;
 mod planning;
 mod script;
-mod table;
 mod weight;
 
 pub use planning::plan;

@@ -1,9 +1,7 @@
 // In which order nodes are held and cleared, one after another.
 use crate::draft::Draft;
-use crate::pebbling::pebbled;
-use crate::table::Table;
-use circuit_plans::PlanFault;
-use revc_base::Memory;
+use crate::nodes::Nodes;
+use plan_tools::Limits;
 use std::alloc::Global;
 
 /// In which order nodes are held and cleared, one after another.
@@ -23,124 +21,103 @@ pub enum Order {
 }
 
 impl Order {
-    /// Holds and clears nodes in a draft that holds nothing yet.
-    pub fn fill(
-        self,
-        alloc: Global,
-        draft: &mut Draft<'_>,
-        table: &Table,
-    ) -> Result<(), PlanFault> {
+    /// The draft in which nodes are held and cleared in this order.
+    pub fn draft<'n>(self, alloc: Global, nodes: &'n Nodes, limits: Limits) -> Draft<'n> {
+        let mut draft = Draft::new(alloc, nodes, limits);
         match self {
-            Order::Ready => ready(draft, table),
-            Order::Segments { length } => segments(draft, table, length),
-            Order::Lazy { most } => lazy(alloc, draft, table, most),
-            Order::Pebbled { depth } => pebbled(alloc, draft, table, depth),
+            Order::Ready => draft.hold_ready(),
+            Order::Segments { length } => draft.hold_segments(length),
+            Order::Lazy { most } => draft.hold_lazily(most),
+            Order::Pebbled { depth } => draft.pebble(depth),
         }
+        draft
     }
 }
 
-fn ready(draft: &mut Draft<'_>, table: &Table) -> Result<(), PlanFault> {
-    for node in 0..table.nodes {
-        draft.hold(node)?;
-        clear_used(draft, table, node)?;
-    }
-    Ok(())
-}
-
-fn clear_used(draft: &mut Draft<'_>, table: &Table, user: u32) -> Result<(), PlanFault> {
-    let Some(row) = table.rows.get(user as usize) else {
-        return Ok(());
-    };
-    for operand in row.operands.iter().rev() {
-        if table.last_use(*operand) == user {
-            draft.clear_ready(*operand)?;
+impl Draft<'_> {
+    fn hold_ready(&mut self) {
+        for node in 0..self.nodes.count {
+            if self.work.is_stopped() {
+                return;
+            }
+            self.hold(node);
+            self.clear_used(node);
         }
     }
-    Ok(())
-}
 
-fn segments(draft: &mut Draft<'_>, table: &Table, length: u32) -> Result<(), PlanFault> {
-    let mut start = 0;
-    for node in 0..table.nodes {
-        draft.hold(node)?;
-        let end = node + 1;
-        if end.saturating_sub(start) >= length && end < table.nodes {
-            clear_segment(draft, table, start, end)?;
-            start = end;
+    // Clears the nodes whose last use this one is, the later one first, where their operands are
+    // held.
+    fn clear_used(&mut self, user: u32) {
+        let nodes = self.nodes;
+        for operand in nodes.operands(user).iter().rev() {
+            if nodes.last_use(*operand) == user {
+                let _is_ready = self.clear_ready(*operand);
+            }
         }
     }
-    Ok(())
-}
 
-fn clear_segment(
-    draft: &mut Draft<'_>,
-    table: &Table,
-    start: u32,
-    end: u32,
-) -> Result<(), PlanFault> {
-    for node in (start..end).rev() {
-        if table.last_use(node) < end {
-            draft.clear(node)?;
+    fn hold_segments(&mut self, length: u32) {
+        let mut start = 0;
+        for node in 0..self.nodes.count {
+            if self.work.is_stopped() {
+                return;
+            }
+            self.hold(node);
+            let end = node.saturating_add(1);
+            if end.saturating_sub(start) >= length && end < self.nodes.count {
+                self.clear_segment(start, end);
+                start = end;
+            }
         }
     }
-    Ok(())
-}
 
-fn lazy(alloc: Global, draft: &mut Draft<'_>, table: &Table, most: u32) -> Result<(), PlanFault> {
-    let mut held = Vec::new(alloc);
-    for node in 0..table.nodes {
-        if table.home(node).is_none() {
-            make_room(alloc, draft, table, &mut held, node, most)?;
-            held.push(node)?;
-        }
-        draft.hold(node)?;
-    }
-    Ok(())
-}
-
-// Where no line is free, clears up to `most` of the held nodes that are not needed from a node on.
-fn make_room(
-    alloc: Global,
-    draft: &mut Draft<'_>,
-    table: &Table,
-    held: &mut Vec<u32>,
-    from: u32,
-    most: u32,
-) -> Result<(), PlanFault> {
-    if draft.is_full() {
-        clear_unneeded(draft, table, held, from, most)?;
-        *held = still_held(alloc, draft, held)?;
-    }
-    Ok(())
-}
-
-// Clears up to `most` of some nodes that are not needed from a node on.
-fn clear_unneeded(
-    draft: &mut Draft<'_>,
-    table: &Table,
-    held: &[u32],
-    from: u32,
-    most: u32,
-) -> Result<(), PlanFault> {
-    let mut cleared = 0;
-    for node in held.iter().rev() {
-        if cleared >= most {
-            return Ok(());
-        }
-        draft.look(1)?;
-        if table.last_use(*node) < from && draft.clear_ready(*node)? {
-            cleared += 1;
+    // Clears the nodes of a segment that are not used behind it.
+    fn clear_segment(&mut self, start: u32, end: u32) {
+        for node in (start..end).rev() {
+            if self.nodes.last_use(node) < end {
+                self.clear(node);
+            }
         }
     }
-    Ok(())
-}
 
-fn still_held(alloc: Global, draft: &Draft<'_>, nodes: &[u32]) -> Result<Vec<u32>, Memory> {
-    let mut held = Vec::new(alloc);
-    for node in nodes {
-        if draft.is_held(*node) {
-            held.push(*node)?;
+    fn hold_lazily(&mut self, most: u32) {
+        let mut held = Vec::new(self.work.alloc);
+        for node in 0..self.nodes.count {
+            if self.work.is_stopped() {
+                return;
+            }
+            if self.nodes.home(node).is_none() {
+                if self.is_full() {
+                    self.clear_unneeded(&held, node, most);
+                    held = self.still_held(&held);
+                }
+                self.work.push(&mut held, node);
+            }
+            self.hold(node);
         }
     }
-    Ok(held)
+
+    // Clears up to `most` of some nodes that are not needed from a node on.
+    fn clear_unneeded(&mut self, held: &[u32], from: u32, most: u32) {
+        let mut cleared: u32 = 0;
+        for node in held.iter().rev() {
+            if cleared >= most {
+                return;
+            }
+            self.work.spend(1);
+            if self.nodes.last_use(*node) < from && self.clear_ready(*node) {
+                cleared = cleared.saturating_add(1);
+            }
+        }
+    }
+
+    fn still_held(&mut self, nodes: &[u32]) -> Vec<u32> {
+        let mut held = Vec::new(self.work.alloc);
+        for node in nodes {
+            if self.is_held(*node) {
+                self.work.push(&mut held, *node);
+            }
+        }
+        held
+    }
 }

@@ -1,142 +1,140 @@
 // The moves of a plan.
-use crate::draft::{Draft, Move};
-use crate::homes::Homes;
-use bit_sums::{Product, Sum};
+use crate::draft::{Draft, Toggle};
+use crate::nodes::Nodes;
+use bit_sums::Sum;
 use dependency_graph::Base;
-use line_moves::{FactorLines, Moves, NOWHERE, Writing};
-use revc_base::Memory;
-use span_rows::Stop;
+use line_moves::{Factor, Moves, Writing};
+use plan_tools::{NOWHERE, Stop, Table, Work};
 use std::alloc::Global;
 use sum_graph::SumGraph;
 
 // The most bits that are added to sets of bits, as each bit of a sum is to those before it.
 const MOST_WORK: u64 = 400_000_000;
 
-/// The moves of the plan with this forward part, on so many lines: its toggles; the outputs whose
-/// lines are no home; and the toggles from the last to the first, where in place of one at home the
-/// output is added.
-pub fn moves_of(
-    alloc: Global,
-    graph: &SumGraph,
-    homes: &Homes,
-    draft: &Draft<'_>,
-    lines: u32,
-) -> Result<Moves, Stop> {
-    let mut script = Script::begun(alloc, graph, lines)?;
-    script.write(alloc, graph, homes, draft.moves())?;
-    let writing = script.writing;
-    Ok(writing.moves)
+/// The moves of the plan with this forward part: its toggles; the outputs whose lines are no home;
+/// and the toggles from the last to the first, where in place of one at home the output is added.
+///
+/// # Errors
+///
+/// The first refusal.
+pub fn moves_of<'n>(alloc: Global, graph: &'n SumGraph, draft: &Draft<'n>) -> Result<Moves, Stop> {
+    let mut script = Script::begun(alloc, graph, draft);
+    script.write_forward(&draft.toggles);
+    script.write_outputs();
+    script.write_back(&draft.toggles);
+    script.finish(draft.lines())
 }
 
 // Moves in the making, and the line on which each node stands.
 #[derive(Drop)]
-struct Script {
+struct Script<'n> {
+    graph: &'n SumGraph,
+    nodes: &'n Nodes,
     writing: Writing,
-    lines: Vec<u32>,
-    work: u64,
+    lines: Table<u32>,
+    work: Work,
 }
 
-impl Script {
-    fn begun(alloc: Global, graph: &SumGraph, lines: u32) -> Result<Script, Stop> {
-        Ok(Script {
-            lines: vec![in alloc; NOWHERE; graph.nodes() as usize]?,
-            writing: Writing::new(alloc, lines)?,
-            work: 0,
-        })
+impl<'n> Script<'n> {
+    fn begun(alloc: Global, graph: &'n SumGraph, draft: &Draft<'n>) -> Script<'n> {
+        let mut work = Work::new(alloc, MOST_WORK);
+        let lines = Table::new(&mut work, draft.nodes.count as usize, NOWHERE);
+        Script {
+            graph,
+            nodes: draft.nodes,
+            writing: Writing::new(alloc, draft.lines()),
+            lines,
+            work,
+        }
     }
 
-    fn write(
-        &mut self,
-        alloc: Global,
-        graph: &SumGraph,
-        homes: &Homes,
-        toggles: &[Move],
-    ) -> Result<(), Stop> {
-        for step in toggles {
-            self.turn(alloc, graph, *step)?;
+    fn write_forward(&mut self, toggles: &[Toggle]) {
+        for toggle in toggles {
+            self.turn(*toggle);
         }
-        for output in 0..graph.outputs().len() as u32 {
-            if homes.guest(output as usize).is_none() {
-                self.add_output(alloc, graph, output)?;
+    }
+
+    fn write_outputs(&mut self) {
+        for output in 0..self.nodes.outputs {
+            if self.nodes.guest(output).is_none() {
+                self.add_output(output);
             }
         }
-        for step in toggles.iter().rev() {
-            match homes.home(step.node) {
-                Some(output) => self.add_output(alloc, graph, output)?,
-                None => self.turn(alloc, graph, *step)?,
+    }
+
+    fn write_back(&mut self, toggles: &[Toggle]) {
+        for toggle in toggles.iter().rev() {
+            match self.nodes.home(toggle.node) {
+                Some(output) => self.add_output(output),
+                None => self.turn(*toggle),
             }
         }
-        Ok(())
     }
 
     // Toggles a node, which then stands on the line, or not any more.
-    fn turn(&mut self, alloc: Global, graph: &SumGraph, step: Move) -> Result<(), Stop> {
-        if step.node >= graph.nodes() {
-            return Ok(());
+    fn turn(&mut self, toggle: Toggle) {
+        let Toggle { node, line } = toggle;
+        if node < self.graph.nodes() {
+            self.add(self.graph.node(node), node, line);
         }
-        self.add(alloc, graph.node(step.node), step.node, step.line)?;
-        let place = step.node as usize;
-        if place < self.lines.len() {
-            self.lines[place] = turned(self.lines[place], step.line);
-        }
-        Ok(())
+        let is_held = self.lines.get(node) != NOWHERE;
+        self.lines.set(node, if is_held { NOWHERE } else { line });
     }
 
     // Adds an output, which stands behind the nodes, to its line.
-    fn add_output(&mut self, alloc: Global, graph: &SumGraph, output: u32) -> Result<(), Stop> {
-        let line = graph.inputs().saturating_add(output);
-        let node = graph.nodes().saturating_add(output);
-        match graph.outputs().get(output as usize) {
-            Some(sum) => self.add(alloc, sum, node, line),
-            None => Ok(()),
+    fn add_output(&mut self, output: u32) {
+        let line = self.nodes.inputs.saturating_add(output);
+        let node = self.nodes.count.saturating_add(output);
+        if let Some(sum) = self.graph.outputs().get(output as usize) {
+            self.add(sum, node, line);
         }
     }
 
     // Adds a sum to a line, on which one of its bits may stand.
-    fn add(&mut self, alloc: Global, sum: &Sum, node: u32, onto: u32) -> Result<(), Stop> {
+    fn add(&mut self, sum: &Sum, node: u32, onto: u32) {
         let bits = sum.bits().len() as u64;
-        self.work = self.work.saturating_add(bits.saturating_mul(bits));
-        if self.work > MOST_WORK {
-            return Err(Stop::Lost);
+        self.work.spend(bits.saturating_mul(bits));
+        if self.work.is_stopped() {
+            return;
         }
         for base in sum.bits() {
             let from = self.line_of(*base);
             if from != onto {
-                self.writing.moves.copy(from, onto)?;
+                self.writing.moves.copy(from, onto);
             }
         }
-        let mut products = Vec::new(alloc);
         for product in sum.products() {
-            products.push(self.lines_of(alloc, product)?)?;
+            let first = self.factor(product.first());
+            let second = self.factor(product.second());
+            self.writing.product(first, second);
         }
-        self.writing.toggle(node, onto, products, &[])
-    }
-
-    fn lines_of(&self, alloc: Global, product: &Product) -> Result<FactorLines, Memory> {
-        let first = self.factor_lines(alloc, product.first())?;
-        let second = self.factor_lines(alloc, product.second())?;
-        Ok(FactorLines::new(alloc, first, second))
+        self.writing.toggle(node, onto, &[]);
     }
 
     // The lines of a factor's bits, rising.
-    fn factor_lines(&self, alloc: Global, bits: &[Base]) -> Result<Vec<u32>, Memory> {
-        let mut lines = Vec::new(alloc);
+    fn factor(&mut self, bits: &[Base]) -> Factor {
+        let mut lines = Vec::new(self.work.alloc);
         for base in bits {
-            lines.push(self.line_of(*base))?;
+            let line = self.line_of(*base);
+            self.work.push(&mut lines, line);
         }
         lines.sort_unstable();
-        Ok(lines)
+        self.writing.factor(&lines, &[])
     }
 
     fn line_of(&self, base: Base) -> u32 {
         match base {
             Base::Input(input) => input,
-            Base::Node(node) => self.lines.get(node as usize).copied().unwrap_or(NOWHERE),
+            Base::Node(node) => self.lines.get(node),
         }
     }
-}
 
-// The line of a node that was toggled onto a line.
-fn turned(old: u32, line: u32) -> u32 {
-    if old == NOWHERE { line } else { NOWHERE }
+    // The moves, with fewer copies.
+    fn finish(self, lines: u32) -> Result<Moves, Stop> {
+        let ports = self.nodes.ports();
+        self.work.finish(())?;
+        self.writing
+            .moves
+            .finish(ports, lines.saturating_sub(ports))
+    }
 }

@@ -1,7 +1,7 @@
 // Nodes that take the places of their bits on the lines of factors.
-use crate::factors::FactorLines;
-use revc_base::Memory;
-use span_rows::{Rows, Stop, number};
+use crate::lines::{Factor, Part, Product};
+use crate::writing::Writing;
+use plan_tools::{Echelon, Work, number};
 use std::alloc::Global;
 
 /// In how many products of one toggle nodes may be written out.
@@ -10,162 +10,146 @@ const MOST_PRODUCTS: usize = 256;
 /// The most symbols that are added to find the lines for the nodes of one toggle.
 const MOST_WORK: u64 = 1_000_000;
 
-/// The nodes that are written out in factors, each with lines: toggled onto these, it takes the
-/// place of its bits in that factor, and in no other one.
-pub fn names_in(alloc: Global, products: &[FactorLines]) -> Result<Vec<(u32, u32)>, Stop> {
-    let mut names = Vec::new(alloc);
-    if !products.iter().any(FactorLines::is_written) {
-        return Ok(names);
+impl Writing {
+    // The nodes that are written out in factors, each list with a line: toggled onto its lines, a
+    // node takes the place of its bits in that factor, and in no other one.
+    pub(crate) fn names(&mut self) -> Vec<(Part, u32)> {
+        if !self.is_written {
+            return Vec::new(self.moves.room.alloc);
+        }
+        if self.products.len() > MOST_PRODUCTS {
+            self.moves.room.give_up();
+        }
+        let mut parities = Parities::of(self.moves.room.alloc, &self.products, &self.numbers);
+        parities.put_all();
+        parities.name_all();
+        if let Err(stop) = parities.work.finish(()) {
+            self.moves.stop(stop);
+        }
+        parities.names
     }
-    let mut parities = Parities::of(alloc, products)?;
-    for (k, product) in products.iter().enumerate() {
-        let k = number(k)?;
-        parities.push_names(alloc, &mut names, first_of(k), &product.first_written)?;
-        parities.push_names(alloc, &mut names, second_of(k), &product.second_written)?;
-    }
-    Ok(names)
-}
-
-// The factors of a product, by their places.
-fn first_of(product: u32) -> u32 {
-    product.saturating_mul(2)
-}
-
-fn second_of(product: u32) -> u32 {
-    first_of(product).saturating_add(1)
 }
 
 // Rows of symbols, the lines of factors and, behind these, the factors: a set of lines, and the
 // factors that have an odd number of them.
 #[derive(Drop)]
-struct Parities {
-    rows: Rows,
+struct Parities<'w> {
+    products: &'w [Product],
+    numbers: &'w [u32],
+    /// The lines of all factors, rising.
     lines: Vec<u32>,
+    rows: Echelon,
+    /// Nodes, each list with a line onto which they are toggled.
+    names: Vec<(Part, u32)>,
+    work: Work,
 }
 
-impl Parities {
-    fn of(alloc: Global, products: &[FactorLines]) -> Result<Parities, Stop> {
-        if products.len() > MOST_PRODUCTS {
-            return Err(Stop::Lost);
-        }
-        let lines = lines_in(alloc, products)?;
-        let symbols = lines.len().saturating_add(products.len().saturating_mul(2));
-        let flags = vec![in alloc; false; symbols]?;
-        let others = vec![in alloc; false; symbols]?;
-        let mut parities = Parities {
-            rows: Rows::new(alloc, flags, others, MOST_WORK)?,
+impl<'w> Parities<'w> {
+    // No rows yet.
+    fn of(alloc: Global, products: &'w [Product], numbers: &'w [u32]) -> Parities<'w> {
+        let mut work = Work::new(alloc, MOST_WORK);
+        let lines = lines_in(&mut work, products, numbers);
+        let factors = products.len().saturating_mul(2);
+        let rows = Echelon::new(&mut work, lines.len().saturating_add(factors));
+        Parities {
+            products,
+            numbers,
             lines,
-        };
-        for vector in parities.vectors(alloc, products)? {
-            parities.put(alloc, &vector)?;
+            rows,
+            names: Vec::new(alloc),
+            work,
         }
-        Ok(parities)
     }
 
-    // The symbol of a factor.
-    fn symbol(&self, factor: u32) -> Result<u32, Stop> {
-        Ok(number(self.lines.len())?.saturating_add(factor))
+    // The symbol of a product's first factor; that of the second one comes behind it.
+    fn symbol(&self, product: usize) -> u32 {
+        number(self.lines.len().saturating_add(product.saturating_mul(2)))
     }
 
-    // Of each line the symbol and those of the factors that have it, the shortest first.
-    fn vectors(&self, alloc: Global, products: &[FactorLines]) -> Result<Vec<Vec<u32>>, Stop> {
-        let mut vectors = self.factors(alloc, products)?;
-        for (place, vector) in vectors.iter_mut().enumerate() {
-            vector.push(number(place)?)?;
+    // Puts a row for each line, unless its factors are those of other rows together: the lines that
+    // the fewest factors have first.
+    fn put_all(&mut self) {
+        let mut vectors = self.work.lists(self.lines.len());
+        self.fill(&mut vectors);
+        let mut order = Vec::new(self.work.alloc);
+        for place in 0..vectors.len() {
+            self.work.push(&mut order, (vectors[place].len(), place));
         }
-        vectors.sort_by_key(|vector| vector.len())?;
-        Ok(vectors)
+        order.sort_unstable();
+        for (_, place) in &order {
+            if *place < vectors.len() {
+                self.put(&mut vectors[*place], number(*place));
+            }
+        }
     }
 
     // Of each line the symbols of the factors that have it, falling.
-    fn factors(&self, alloc: Global, products: &[FactorLines]) -> Result<Vec<Vec<u32>>, Stop> {
-        let mut factors = lists(alloc, self.lines.len())?;
-        for (k, product) in products.iter().enumerate().rev() {
-            let k = number(k)?;
-            self.push_factor(&mut factors, second_of(k), &product.second)?;
-            self.push_factor(&mut factors, first_of(k), &product.first)?;
+    fn fill(&mut self, vectors: &mut [Vec<u32>]) {
+        let products = self.products;
+        for k in (0..products.len()).rev() {
+            let symbol = self.symbol(k);
+            let Product { first, second } = products[k];
+            self.push_symbol(vectors, second, symbol.saturating_add(1));
+            self.push_symbol(vectors, first, symbol);
         }
-        Ok(factors)
     }
 
     // Puts the symbol of a factor behind those before it at each of its lines.
-    fn push_factor(
-        &self,
-        factors: &mut [Vec<u32>],
-        factor: u32,
-        lines: &[u32],
-    ) -> Result<(), Stop> {
-        let symbol = self.symbol(factor)?;
-        for line in lines {
+    fn push_symbol(&mut self, vectors: &mut [Vec<u32>], factor: Factor, symbol: u32) {
+        for line in factor.lines.of(self.numbers) {
             if let Ok(place) = self.lines.binary_search(line)
-                && let Some(symbols) = factors.get_mut(place)
+                && place < vectors.len()
             {
-                symbols.push(symbol)?;
+                self.work.push(&mut vectors[place], symbol);
             }
-        }
-        Ok(())
-    }
-
-    // Puts a vector among the rows, unless its factors are those of other rows together.
-    fn put(&mut self, alloc: Global, vector: &[u32]) -> Result<(), Stop> {
-        let reduced = self.rows.reduced(alloc, vector)?;
-        match reduced.left.first() {
-            Some(head) if *head >= self.symbol(0)? => {
-                let row = self.rows.fresh(alloc)?;
-                self.rows.put(alloc, row, reduced.left)
-            }
-            _ => Ok(()),
         }
     }
 
-    // Pairs nodes with each of the lines of which this factor alone has an odd number.
-    fn push_names(
-        &mut self,
-        alloc: Global,
-        names: &mut Vec<(u32, u32)>,
-        factor: u32,
-        written: &[u32],
-    ) -> Result<(), Stop> {
-        if written.is_empty() {
-            return Ok(());
+    // Puts a row of these symbols of factors, and of that of a line.
+    fn put(&mut self, vector: &mut Vec<u32>, line: u32) {
+        self.work.push(vector, line);
+        let reduced = self.rows.reduced(&mut self.work, vector);
+        if let Some(head) = reduced.left.first()
+            && *head >= self.symbol(0)
+        {
+            let row = self.rows.fresh(&mut self.work);
+            self.rows.put(&mut self.work, row, reduced.left);
         }
-        let symbol = self.symbol(factor)?;
-        let reduced = self.rows.reduced(alloc, &[symbol])?;
+    }
+
+    fn name_all(&mut self) {
+        let products = self.products;
+        for k in 0..products.len() {
+            let symbol = self.symbol(k);
+            let Product { first, second } = products[k];
+            self.name(first, symbol);
+            self.name(second, symbol.saturating_add(1));
+        }
+    }
+
+    // Pairs the nodes of a factor with each of the lines of which it alone has an odd number.
+    fn name(&mut self, factor: Factor, symbol: u32) {
+        if factor.written.is_empty() {
+            return;
+        }
+        let reduced = self.rows.reduced(&mut self.work, &[symbol]);
         for place in &reduced.left {
-            let Some(line) = self.lines.get(*place as usize) else {
-                return Err(Stop::Lost);
-            };
-            push_all(names, written, *line)?;
+            match self.lines.get(*place as usize) {
+                Some(line) => self.work.push(&mut self.names, (factor.written, *line)),
+                None => self.work.give_up(),
+            }
         }
-        Ok(())
     }
-}
-
-// So many empty lists.
-fn lists(alloc: Global, count: usize) -> Result<Vec<Vec<u32>>, Memory> {
-    let mut lists = Vec::with_capacity(alloc, count)?;
-    for _ in 0..count {
-        lists.push(Vec::new(alloc))?;
-    }
-    Ok(lists)
-}
-
-// Pairs nodes with a line.
-fn push_all(names: &mut Vec<(u32, u32)>, nodes: &[u32], line: u32) -> Result<(), Memory> {
-    for node in nodes {
-        names.push((*node, line))?;
-    }
-    Ok(())
 }
 
 // The lines of all factors, rising.
-fn lines_in(alloc: Global, products: &[FactorLines]) -> Result<Vec<u32>, Memory> {
-    let mut lines = Vec::new(alloc);
+fn lines_in(work: &mut Work, products: &[Product], numbers: &[u32]) -> Vec<u32> {
+    let mut lines = Vec::new(work.alloc);
     for product in products {
-        lines.extend_from_slice(&product.first)?;
-        lines.extend_from_slice(&product.second)?;
+        work.append(&mut lines, product.first.lines.of(numbers));
+        work.append(&mut lines, product.second.lines.of(numbers));
     }
     lines.sort_unstable();
     lines.dedup();
-    Ok(lines)
+    lines
 }
