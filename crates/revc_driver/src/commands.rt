@@ -11,8 +11,6 @@ ghost use Rattle.revc_driver.specs.Commands.{Gives, most_bytes, promise_of, read
 ghost use Rattle.revc_driver.specs.inside.Ends.{IsCauseOrMemory};
 ghost use Rattle.revc_driver.specs.inside.Outcomes.{CanBeWritten, text_of};
 
-use arith_command::arith;
-use arith_command::arith::Made;
 use circuit_commands::convert::Converted;
 use circuit_commands::stat::Sizes;
 use circuit_commands::{MOST_CIRCUIT_BYTES, convert, run, stat, tidy};
@@ -20,8 +18,9 @@ use circuit_plans::Laid;
 use command_answers::{
     CircuitRefusal, Fault, Refusal, TextLimit, write_digits, write_lines, write_number,
 };
+use program_commands::arith::Made;
 use program_commands::bench::BenchSizes;
-use program_commands::{bench, compile, generate};
+use program_commands::{arith, bench, compile, generate};
 use program_texts::{check, eval};
 use revc_base::Bits;
 use revc_io::{Failed, Sink};

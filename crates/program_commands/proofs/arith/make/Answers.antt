@@ -1,7 +1,7 @@
 use Rattle.std.proofs.Common.{◌∙◌, subst, sym, length, ◌≤◌, List, ℕ}
-use Rattle.arith_command.proofs.CircuitLemmas.{file_gives, file_stops, program_gives}
-use Rattle.arith_command.proofs.TextLemmas.{texts_compute}
-use Rattle.arith_command.proofs.arith.make.Goals as goal
+use Rattle.program_commands.proofs.ArithCircuitLemmas.{file_gives, file_stops, program_gives}
+use Rattle.program_commands.proofs.ArithTextLemmas.{texts_compute}
+use Rattle.program_commands.proofs.arith.make.Goals as goal
 use Rattle.revc_words.specs.Words.{order_of}
 use Rattle.revc_words.specs.declared.order.Format.TheVariants as formats
 use Rattle.revc_words.specs.declared.order.Write.TheVariants as writes

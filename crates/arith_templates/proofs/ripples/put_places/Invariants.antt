@@ -1,7 +1,7 @@
 use Rattle.std.proofs.Common.{◌≡◌, ℕ, ◌-◌, ◌≤◌, ◌++◌, List, string_bytes}
 use Rattle.std.specs.List.{flat_map, range_with_len}
-use Rattle.program_gen.specs.Places.{Puts}
-use Rattle.program_gen.proofs.places.put_places.Given as goal
+use Rattle.arith_templates.specs.Ripples.{Puts}
+use Rattle.arith_templates.proofs.ripples.put_places.Given as goal
 
 abbrev pub invariant-loop-i : goal.invariant-loop-i
 invariant-loop-i g l = record {

@@ -1,7 +1,7 @@
 use Rattle.std.proofs.Common.{◌-◌, ◌+◌, ◌≡◌, ◌++◌, ◌∙◌, ap, arith, string_bytes, flat_map, rules}
 use Rattle.std.specs.List.{range_with_len}
-use Rattle.program_gen.proofs.PlaceLemmas.{one_more}
-use Rattle.program_gen.proofs.places.put_places.Goals as goal
+use Rattle.arith_templates.proofs.RippleLemmas.{one_more}
+use Rattle.arith_templates.proofs.ripples.put_places.Goals as goal
 
 pub loop-i-preserved : goal.loop-i-preserved
 loop-i-preserved g c = let i = c.loop-i.i in let first = c.args.first in record {

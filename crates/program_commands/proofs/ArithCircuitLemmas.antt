@@ -2,9 +2,9 @@
 use Rattle.std.proofs.Common.{◌≡◌, ℕ, Bool, false, List, [], Result, Ok, Err, length, replicate, refl, sym, ◌∙◌, subst, arith}
 use Rattle.std.specs.Result.{IfOk, IfErr}
 use Rattle.std.proofs.lemmas.List.{length-replicate}
-use Rattle.arith_command.specs.Arith.{Gives, IsCircuitOf, IsProgramOf, IsWrittenAs, AddsNumbers, StopsAs, compile_order, program_text}
-use Rattle.arith_command.specs.Outcomes.{IsArithFault, made_text}
-use Rattle.arith_command.specs.declared.arith.Made.{Made}
+use Rattle.program_commands.specs.Arith.{Gives, IsCircuitOf, IsProgramOf, IsWrittenAs, AddsNumbers, StopsAs, compile_order, program_text}
+use Rattle.program_commands.specs.Outcomes.{IsArithFault, made_text}
+use Rattle.program_commands.specs.declared.arith.Made.{Made}
 use Rattle.arith_laws.specs.Computes.{Computes}
 use Rattle.arith_templates.specs.Meets.{inputs_of, outputs_of}
 use Rattle.arith_templates.specs.declared.kind.Kind.TheVariants.{Add, Mul}

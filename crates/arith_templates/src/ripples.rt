@@ -2,14 +2,19 @@
 ghost use Rattle.std.specs.Prelude.{◌≡◌, ℕ, ◌-◌, ◌<◌, ◌≤◌, ◌++◌, List, string_bytes};
 ghost use Rattle.std.specs.Prelude.{IfOk, OnOk};
 ghost use Rattle.std.specs.List.{flat_map, range_with_len};
-ghost use Rattle.program_gen.specs.Places.{Puts, outputs, ripple_text};
+ghost use Rattle.arith_templates.specs.Ripples.{Puts, outputs, ripple_text};
 
 use revc_base::Memory;
 use std::alloc::{AllocError, Global};
 
-/// Puts each place from the first one on to the end. It answers `AllocError` where memory is
-/// refused.
-pub fn put_places<P>(text: &mut String, first: u32, end: u32, put: P) -> Result<(), AllocError>
+// Puts each place from the first one on to the end. It answers `AllocError` where memory is
+// refused.
+pub(crate) fn put_places<P>(
+    text: &mut String,
+    first: u32,
+    end: u32,
+    put: P,
+) -> Result<(), AllocError>
 where
     P: Fn(&mut String, u32) -> Result<(), AllocError>,
     requires { (before : _) (i : ℕ) → first ≤ i → i < end → P.pre put before i }
@@ -23,10 +28,10 @@ where
     Ok(())
 }
 
-/// Puts the bits of all places under this name, and then what goes out of the last one. It answers
-/// `AllocError` where memory is refused.
-#[tactic(auto, unfolding(crate::specs::Places::output, crate::specs::Places::outputs))]
-pub fn put_outputs(text: &mut String, name: &str, n: u32) -> Result<(), AllocError>
+// Puts the bits of all places under this name, and then what goes out of the last one. It answers
+// `AllocError` where memory is refused.
+#[tactic(auto, unfolding(crate::specs::Ripples::output, crate::specs::Ripples::outputs))]
+pub(crate) fn put_outputs(text: &mut String, name: &str, n: u32) -> Result<(), AllocError>
     ensures { OnOk result (string_bytes text.new ≡ string_bytes text.old ++ outputs name.now n) }
 {
     text.push_str("reg [")?;
@@ -34,9 +39,9 @@ pub fn put_outputs(text: &mut String, name: &str, n: u32) -> Result<(), AllocErr
     writeln!(text, "c{n}]")
 }
 
-/// The text of a program that goes from place to place: what opens it, place 0 with it, each place
-/// above 0, what it puts out, and its end. It answers `Memory` where memory is refused.
-pub fn rippled<O, P, E>(
+// The text of a program that goes from place to place: what opens it, place 0 with it, each place
+// above 0, what it puts out, and its end. It answers `Memory` where memory is refused.
+pub(crate) fn ripple_text<O, P, E>(
     alloc: Global,
     n: u32,
     opening: O,

@@ -1,7 +1,7 @@
 -- The program of a ripple-carry adder of two numbers a and b of n bits, whose places are counted
 -- from the least bit.
 use Rattle.std.specs.Prelude.{ℕ, ◌+◌, List, [], ◌∷◌, ◌++◌, codes, decimal}
-use Rattle.program_gen.specs.Places.{line, outputs, ripple_text}
+use Rattle.arith_templates.specs.Ripples.{line, outputs, ripple_text}
 
 -- ---- two numbers of any names
 

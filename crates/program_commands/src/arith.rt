@@ -1,8 +1,8 @@
 // `arith`: a program that computes with numbers, or its clean circuit.
 ghost use Rattle.std.specs.Prelude.{◌≡◌, ◌≤◌, [], length, IfOk, IfErr};
-ghost use Rattle.arith_command.specs.Arith.{Gives, compile_order, promise};
-ghost use Rattle.arith_command.specs.Outcomes.{CanBeWritten, IsArithFault, made_text};
-ghost use Rattle.arith_command.specs.Texts.{IsProgramSize, TextsCompute};
+ghost use Rattle.program_commands.specs.Arith.{Gives, compile_order, promise};
+ghost use Rattle.program_commands.specs.Outcomes.{CanBeWritten, IsArithFault, made_text};
+ghost use Rattle.program_commands.specs.Texts.{IsProgramSize, TextsCompute};
 ghost use Rattle.command_answers.specs.Outcomes.{HasOneOutcome};
 ghost use Rattle.program_commands.specs.Compile.{IsCompiled};
 ghost use Rattle.program_commands.specs.Outcomes.{IsCompileFault};
@@ -11,10 +11,10 @@ ghost use Rattle.revc_io.specs.Passing.{Writes};
 ghost use Rattle.revc_words.specs.Words.{order_of};
 ghost use Rattle.revs_parser.specs.declared.limits.TheConstants.{MOST_BYTES};
 
+use crate::{compile, generate};
 use arith_templates::{Kind, text};
 use circuit_plans::Laid;
 use command_answers::Fault;
-use program_commands::{compile, generate};
 use revc_io::{Failed, Sink};
 use revc_words::{Command, Format, Order, Values, Write};
 use std::alloc::Global;

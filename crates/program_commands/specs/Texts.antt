@@ -4,8 +4,7 @@ use Rattle.arith_laws.specs.Computes.{Computes}
 use Rattle.arith_templates.specs.Texts.{text_of}
 use Rattle.arith_templates.specs.declared.kind.Kind.{Kind}
 use Rattle.arith_templates.specs.declared.kind.Kind.TheVariants.{Mul}
-use Rattle.arith_templates.specs.declared.limits.TheConstants.{MOST_FACTOR}
-use Rattle.program_gen.specs.declared.adder.TheConstants.{MOST_BITS}
+use Rattle.arith_templates.specs.declared.limits.TheConstants.{MOST_BITS, MOST_FACTOR}
 
 -- there are texts for numbers of so many bits, and for this factor
 pub record IsProgramSize (kind : Kind) (n by : ℕ) : Type 0 where

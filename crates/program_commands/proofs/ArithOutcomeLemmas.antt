@@ -1,6 +1,6 @@
 -- What `arith` gives, its causes and where it serves exclude one another.
 use Rattle.std.proofs.Common.{[], ◌∷◌}
-use Rattle.arith_command.specs.Arith.{ServesAs, StopsAs, compile_order, program_text, promise}
+use Rattle.program_commands.specs.Arith.{ServesAs, StopsAs, compile_order, program_text, promise}
 use Rattle.command_answers.specs.Outcomes.{HasOneOutcome, IsFaultOfText, IsNoBudget}
 use Rattle.command_answers.specs.declared.fault.Fault.{Fault}
 use Rattle.program_commands.proofs.CompileLemmas.{among_budgets, fits_free, no_exact_budget}

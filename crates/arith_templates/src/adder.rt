@@ -1,32 +1,24 @@
 // The program of a ripple-carry adder, line by line.
 ghost use Rattle.std.specs.Prelude.{◌≡◌, ◌-◌, ◌≤◌, ◌++◌, string_bytes, IfOk, OnOk};
 ghost use Rattle.std.specs.List.{flat_map, range_with_len};
-ghost use Rattle.program_gen.specs.Adder.{adder_text, adder_opening, parameters};
-ghost use Rattle.program_gen.specs.Adder.{carry_function, first_place, place};
-ghost use Rattle.program_gen.specs.Limits.{LimitsAre};
+ghost use Rattle.arith_templates.specs.Adder.{adder_text, adder_opening, parameters};
+ghost use Rattle.arith_templates.specs.Adder.{carry_function, first_place, place};
 
-use crate::places::{put_outputs, put_places, rippled};
+use crate::limits::MOST_BITS;
+use crate::ripples::{put_outputs, put_places, ripple_text};
 use revc_base::Memory;
 use std::alloc::{AllocError, Global};
 
-/// The most bits of each number that a program adds.
-pub const MOST_BITS: u32 = 200;
-
-/// The law of limits: what number each is. The function does nothing: its contract is the law.
-pub fn limits_are()
-    ensures { LimitsAre }
-{}
-
-/// The text of the program that adds two numbers of `n` bits, 1 to 200, as a ripple-carry adder of
-/// full adders does (Knuth, The Art of Computer Programming, volume 4A, section 7.1.2). It has 2n
-/// inputs, and its n + 1 outputs are the sum, its least bit first. Each line ends with a line feed.
-/// It answers `Memory` where memory is refused.
-pub fn program_text(alloc: Global, n: u32) -> Result<Vec<u8>, Memory>
+// The text of the program that adds two numbers of `n` bits, 1 to 200, as a ripple-carry adder of
+// full adders does (Knuth, The Art of Computer Programming, volume 4A, section 7.1.2). It has 2n
+// inputs, and its n + 1 outputs are the sum, its least bit first. Each line ends with a line feed.
+// It answers `Memory` where memory is refused.
+pub(crate) fn adder_text(alloc: Global, n: u32) -> Result<Vec<u8>, Memory>
     requires some { 1 ≤ n }
     requires few { n ≤ MOST_BITS }
     ensures { IfOk result (λ text. text.items ≡ adder_text n) }
 {
-    rippled(
+    ripple_text(
         alloc,
         n,
         put_opening,
@@ -44,25 +36,30 @@ fn put_opening(text: &mut String, n: u32) -> Result<(), AllocError>
     put_first_place(text, "a", "b")
 }
 
-/// Puts the parameters: two numbers of `n` bits. It answers `AllocError` where memory is refused.
+// Puts the parameters: two numbers of `n` bits. It answers `AllocError` where memory is refused.
 #[tactic(auto, unfolding(crate::specs::Adder::parameters))]
-pub fn put_parameters(text: &mut String, n: u32) -> Result<(), AllocError>
+pub(crate) fn put_parameters(text: &mut String, n: u32) -> Result<(), AllocError>
     ensures { OnOk result (string_bytes text.new ≡ string_bytes text.old ++ parameters n) }
 {
     writeln!(text, "main (a : bool[{n}]) (b : bool[{n}]) = {{")
 }
 
-/// Puts the carry as a function. It answers `AllocError` where memory is refused.
+// Puts the carry as a function. It answers `AllocError` where memory is refused.
 #[tactic(auto, unfolding(crate::specs::Adder::carry_function))]
-pub fn put_carry(text: &mut String) -> Result<(), AllocError>
+pub(crate) fn put_carry(text: &mut String) -> Result<(), AllocError>
     ensures { OnOk result (string_bytes text.new ≡ string_bytes text.old ++ carry_function) }
 {
     text.push_str("let carry x y c = (x && y) <> (c && (x <> y));\n")
 }
 
-/// Puts the sums and the carries of all places of two numbers of these names, which have `n` bits,
-/// 1 to 200. It answers `AllocError` where memory is refused.
-pub fn put_sums(text: &mut String, first: &str, second: &str, n: u32) -> Result<(), AllocError>
+// Puts the sums and the carries of all places of two numbers of these names, which have `n` bits,
+// 1 to 200. It answers `AllocError` where memory is refused.
+pub(crate) fn put_sums(
+    text: &mut String,
+    first: &str,
+    second: &str,
+    n: u32,
+) -> Result<(), AllocError>
     requires { n ≤ MOST_BITS }
     ensures { OnOk result (string_bytes text.new ≡ string_bytes text.old
         ++ (first_place first.now second.now

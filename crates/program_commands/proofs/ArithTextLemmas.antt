@@ -1,6 +1,6 @@
 -- The texts of all kinds compute what their kind says.
 use Rattle.std.proofs.Common.{refl}
-use Rattle.arith_command.specs.Texts.{TextsCompute}
+use Rattle.program_commands.specs.Texts.{TextsCompute}
 use Rattle.arith_laws.proofs.IncrementLemmas.{incrementers_add_one}
 use Rattle.arith_laws.proofs.MultiplierLemmas.{multipliers_multiply}
 use Rattle.arith_laws.proofs.AdderLemmas.{adders_add}
