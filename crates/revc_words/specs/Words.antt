@@ -41,7 +41,7 @@ words_of words = map string_bytes words
 -- what is written of it, how many bits its numbers have, and words of bits
 pub record OrderView : Type 0 where
   pub command : Command
-  pub plan : How
+  pub plan : Plan
   pub lines : ℕ
   pub gates : ℕ
   pub borrow : ℕ

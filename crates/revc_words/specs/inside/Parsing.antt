@@ -122,7 +122,7 @@ abbrev pub number_of : ℕ → ℕ → List ℕ → Option ℕ
 number_of least most word =
     cond (is_number_in least most word) (Some (digits_value 10 word)) None
 
-abbrev pub plan_of : List ℕ → Option How
+abbrev pub plan_of : List ℕ → Option Plan
 plan_of word = first_with plan_word (Auto ∷ Compact ∷ Eager ∷ Lean ∷ Pebble ∷ []) word
 
 abbrev pub start_of : List ℕ → Option Start
