@@ -6,7 +6,7 @@ use Rattle.list_facts.proofs.BitLemmas.{xor_nothing}
 use Rattle.revs_grammar.specs.Forms.{name_of}
 use Rattle.built_texts.specs.Meanings.{IsRun, of_bit, no_operands, operand}
 use Rattle.built_texts.proofs.RunLemmas.{run_name, run_xor, run_and, run_within}
-use Rattle.program_gen.specs.Adder as texts
+use Rattle.arith_templates.specs.Adder as texts
 use Rattle.arith_templates.specs.Numbers.{number}
 use Rattle.arith_templates.specs.Places.{carry, sums}
 use Rattle.arith_templates.specs.declared.kind.Kind.TheVariants.{Add}

@@ -18,7 +18,7 @@ use Rattle.built_texts.specs.Pieces.{Piece, text_of, toks_of, fits, AreGood}
 use Rattle.built_texts.specs.Ways.{placed, shifted, Turns}
 use Rattle.built_texts.proofs.PlaceLemmas.{text_of-append, lettered, good_sign, good_numbered, built_length}
 use Rattle.built_texts.proofs.WayLemmas.{turns, turns-then, built_then, is_sentence}
-use Rattle.program_gen.specs.Places as lines
+use Rattle.arith_templates.specs.Ripples as lines
 use Rattle.arith_templates.specs.Texts as texts
 use Rattle.arith_laws.proofs.NameLemmas.{one_digit, zero_digit}
 use Rattle.arith_laws.proofs.RippleReadingLemmas.{f, chain_end, bound, nothing_behind, end_turns}

@@ -3,8 +3,8 @@ use Rattle.std.proofs.Common.{◌≡◌, ℕ, zero, suc, ◌+◌, ◌*◌, ◌-�
 use Rattle.std.specs.Prelude.{codes, decimal}
 use Rattle.std.specs.List.{flat_map, range_with_len}
 use Rattle.std.proofs.lemmas.List.{append_assoc, length-append}
-use Rattle.program_gen.specs.Adder as adder
-use Rattle.program_gen.specs.Places.{line, outputs}
+use Rattle.arith_templates.specs.Adder as adder
+use Rattle.arith_templates.specs.Ripples.{line, outputs}
 use Rattle.arith_templates.specs.Texts as texts
 use Rattle.revs_lexer.specs.declared.sign.Sign.TheVariants as signs
 use Rattle.revs_lexer.specs.declared.word.Word.TheVariants as words

@@ -10,7 +10,7 @@ use Rattle.revs_lexer.specs.declared.token.Tok.{Tok}
 use Rattle.revs_lexer.specs.declared.token.Tok.TheVariants as toks
 use Rattle.built_texts.specs.Pieces.{Piece, text_of, toks_of, fits, AreGood}
 use Rattle.built_texts.proofs.PlaceLemmas.{text_of-append, good_word, good_sign, good_number, good_numbered, is_plain, plain_good}
-use Rattle.program_gen.specs.Places.{line, output, outputs}
+use Rattle.arith_templates.specs.Ripples.{line, output, outputs}
 use Rattle.arith_laws.proofs.Pieces.{place_of, parameter, outputs_open, bit_outputs, outputs_close}
 use Rattle.arith_laws.proofs.RipplePieces.{Ripple, places, from_open, from_sum}
 

@@ -10,8 +10,8 @@ use Rattle.revs_lexer.specs.declared.word.Word.TheVariants as words
 use Rattle.revs_lexer.specs.declared.token.Tok.TheVariants as toks
 use Rattle.built_texts.specs.Pieces.{Piece, text_of, toks_of, fits, AreGood}
 use Rattle.built_texts.proofs.PlaceLemmas.{text_of-append, good_word, good_sign, good_numbered, is_plain, plain_good, good_line, built_length}
-use Rattle.program_gen.specs.Adder as sums
-use Rattle.program_gen.specs.Places as lines
+use Rattle.arith_templates.specs.Adder as sums
+use Rattle.arith_templates.specs.Ripples as lines
 use Rattle.arith_laws.proofs.NameLemmas.{one_digit, zero_digit}
 use Rattle.arith_laws.proofs.Pieces.{s, numbered, place_of, parameter, text_end}
 use Rattle.arith_laws.proofs.RipplePieces.{from_sum}

@@ -2,8 +2,8 @@
 -- least bit.
 use Rattle.std.specs.Prelude.{ℕ, zero, suc, ◌+◌, ◌-◌, Bool, true, false, List, [], ◌∷◌, ◌++◌, length, codes, decimal}
 use Rattle.std.specs.List.{flat_map, range_with_len}
-use Rattle.program_gen.specs.Adder.{bit_line, next_line, parameters, carry_function, first_place, place, adder_text}
-use Rattle.program_gen.specs.Places.{line, outputs, ripple_text}
+use Rattle.arith_templates.specs.Adder.{bit_line, next_line, parameters, carry_function, first_place, place, adder_text}
+use Rattle.arith_templates.specs.Ripples.{line, outputs, ripple_text}
 use Rattle.arith_templates.specs.Numbers.{digits_of}
 use Rattle.arith_templates.specs.declared.kind.Kind.{Kind}
 use Rattle.arith_templates.specs.declared.kind.Kind.TheVariants.{Add, Sub, Less, Inc, Mul}

@@ -1,10 +1,11 @@
 // The lines of the programs that subtract and compare.
 ghost use Rattle.std.specs.Prelude.{◌≡◌, ◌≤◌, ◌++◌, string_bytes, OnOk};
-ghost use Rattle.program_gen.specs.Adder.{parameters};
+ghost use Rattle.arith_templates.specs.Adder.{parameters};
 ghost use Rattle.arith_templates.specs.Texts.{borrow_function, first_borrow, difference_place};
 ghost use Rattle.arith_templates.specs.Texts.{borrow_line, last_borrow_line};
 
-use program_gen::{MOST_BITS, put_parameters};
+use crate::adder::put_parameters;
+use crate::limits::MOST_BITS;
 use std::alloc::AllocError;
 
 // The parameters, the borrow as a function, and place 0: these bytes, and the borrow out of it.

@@ -2,7 +2,7 @@
 ghost use Rattle.std.specs.Prelude.{◌≡◌, ◌≤◌, ◌++◌, string_bytes, OnOk};
 ghost use Rattle.arith_templates.specs.Texts.{parameter, incrementer_opening, increment_place};
 
-use program_gen::MOST_BITS;
+use crate::limits::MOST_BITS;
 use std::alloc::AllocError;
 
 // The parameter: one number.

@@ -1,6 +1,9 @@
 // The limits.
 ghost use Rattle.arith_templates.specs.Limits.{LimitsAre};
 
+/// The most bits of each number with which a program computes.
+pub const MOST_BITS: u32 = 200;
+
 /// The greatest constant by which a program multiplies.
 pub const MOST_FACTOR: u32 = 9_999;
 

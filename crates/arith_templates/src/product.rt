@@ -6,9 +6,10 @@ ghost use Rattle.arith_templates.specs.Texts.{plus_function};
 ghost use Rattle.arith_templates.specs.Texts.{zero_line, further_zero, digit_line};
 ghost use Rattle.arith_templates.specs.Texts.{digit_lines, add_line, multiplier_text};
 
+use crate::adder::{put_carry, put_sums};
 use crate::increment::put_parameter;
-use crate::limits::MOST_FACTOR;
-use program_gen::{MOST_BITS, put_carry, put_outputs, put_places, put_sums};
+use crate::limits::{MOST_BITS, MOST_FACTOR};
+use crate::ripples::{put_outputs, put_places};
 use revc_base::Memory;
 use std::alloc::{AllocError, Global};
 

@@ -3,10 +3,11 @@ ghost use Rattle.std.specs.Prelude.{◌≡◌, ◌≤◌, IfOk};
 ghost use Rattle.arith_templates.specs.Texts.{text_of};
 ghost use Rattle.arith_templates.specs.declared.kind.Kind.TheVariants.{Mul};
 
-use crate::limits::MOST_FACTOR;
+use crate::adder::adder_text;
+use crate::limits::{MOST_BITS, MOST_FACTOR};
 use crate::product::multiplier;
+use crate::ripples::{put_outputs, ripple_text};
 use crate::{Kind, difference, increment};
-use program_gen::{MOST_BITS, program_text, put_outputs, rippled};
 use revc_base::Memory;
 use std::alloc::Global;
 
@@ -22,22 +23,22 @@ pub fn text(alloc: Global, kind: Kind, n: u32, by: u32) -> Result<Vec<u8>, Memor
     ensures bytes { IfOk result (λ text. text.items ≡ text_of kind n by) }
 {
     match kind {
-        Kind::Add => program_text(alloc, n),
-        Kind::Sub => rippled(
+        Kind::Add => adder_text(alloc, n),
+        Kind::Sub => ripple_text(
             alloc,
             n,
             |text, n| difference::put_opening(text, n, "let d0 = a.[0] <> b.[0];\n"),
             difference::put_difference_place,
             |text, n| put_outputs(text, "d", n),
         ),
-        Kind::Less => rippled(
+        Kind::Less => ripple_text(
             alloc,
             n,
             |text, n| difference::put_opening(text, n, ""),
             difference::put_borrow,
             difference::put_last_borrow,
         ),
-        Kind::Inc => rippled(
+        Kind::Inc => ripple_text(
             alloc,
             n,
             increment::put_incrementer_opening,

@@ -2,4 +2,4 @@ pub mod RunLemmas
 pub mod CircuitLemmas
 mod WiderLemmas
 pub mod ConvertLemmas
-mod TidyLemmas
+pub mod TidyLemmas

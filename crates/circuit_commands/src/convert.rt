@@ -19,7 +19,7 @@ ghost use Rattle.circuit_commands.specs.inside.Splitting.{IsWritable};
 use crate::circuit::{MarkedCircuit, read_circuit};
 use circuit_plans::{MOST_GATES, MOST_LINES, Narrow};
 use command_answers::Fault;
-use gate_split::{SplitFault, is_narrow, split};
+use gate_split::{SplitFault, are_narrow, split};
 use mct_circuit::Circuit;
 use real_format::Mark;
 use revc_base::Memory;
@@ -140,7 +140,7 @@ fn are_few_and_narrow(circuit: &Circuit, most: u64) -> bool
     ensures few { IsTrue result → length circuit.now.gates ≤ most }
     ensures narrow { IsTrue result → AreNarrow circuit.now.gates }
 {
-    circuit.len() <= most && circuit.gates().iter().all(|gate| is_narrow(gate))
+    circuit.len() <= most && are_narrow(circuit.gates())
 }
 
 // A circuit of narrow gates with its own gates.

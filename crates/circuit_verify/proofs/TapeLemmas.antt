@@ -14,12 +14,14 @@ use Rattle.claim_check.specs.Measures.{node_function, write_function}
 use Rattle.claim_check.specs.Settled.{settled_outputs}
 use Rattle.mct_circuit.specs.Gates.{GateView}
 use Rattle.circuit_plans.specs.declared.roles.Start.{Start}
+use Rattle.circuit_verify.specs.declared.fault.NotComparable.{NotComparable}
+use Rattle.circuit_verify.specs.declared.fault.NotComparable.TheVariants.{Lines, Gate}
 use Rattle.circuit_verify.specs.declared.fault.VerifyFault.{VerifyFault}
 use Rattle.circuit_verify.specs.declared.fault.VerifyFault.TheVariants as faults
 use Rattle.circuit_verify.specs.Comparisons.{Comparison, of_settled, of_tape, order_in}
 use Rattle.circuit_verify.specs.LineFunctions.{Holder, HasMore, IsHolder, IsMember, IsSameFunction, Line, LineFunction, Step, Wanted}
 use Rattle.circuit_verify.specs.LineFunctions.{held_bit, value_on}
-use Rattle.circuit_verify.specs.Verdicts.{DiffersFirst, IsComparable, IsVerified, IsVerifyFault, SaidOfTapes}
+use Rattle.circuit_verify.specs.Verdicts.{DiffersFirst, IsComparable, IsNotComparable, IsVerified, IsVerifyFault, SaidOfTapes}
 
 -- Two programs with the same parameters and outputs, where each step of one is a step of the other; and two circuits that differ by
 -- their limits alone.
@@ -121,9 +123,11 @@ module _ (params : List ℕ) (steps others : ℕ) (step other : ℕ → List Boo
   pub verified_moved : IsVerified one → IsVerified two
   verified_moved is = record { comparable = comparable_moved is.comparable; agrees = record { size = is.agrees.size; adds = is.agrees.adds } }
 
+  pub not_comparable_moved : (why : NotComparable) → IsNotComparable one why → IsNotComparable two why
+  not_comparable_moved (Lines need) is = is
+  not_comparable_moved (Gate gate) is = is
+
   pub fault_moved : (most : ℕ) (fault : VerifyFault) → IsVerifyFault one most fault → IsVerifyFault two most fault
-  fault_moved most (faults.Lines need) is = is
-  fault_moved most (faults.Gate gate) is = is
   fault_moved most (faults.Diagram nodes) is = (comparable_moved is.0, more_moved most is.1, is.2)
   fault_moved most (faults.Differs line bits) is = (comparable_moved is.0, differs_moved line bits is.1)
   fault_moved most (faults.Memory _) is = comparable_moved is
@@ -145,6 +149,10 @@ said_of_tapes t s is c start borrow limit =
     let there : own (length s.outputs) (settled_outputs s) ≡ own (outputs_of t) (outputs_on t) =
     ap (λ (o : ℕ). own o (settled_outputs s)) is.outputs ∙ ap (own (outputs_of t)) same_value in
     record {
+      not_comparable = λ why said. not_comparable_moved t.params (length s.nodes) (writes_of t) (node_function s) (write_function t) (outputs_of t)
+          (outputs_on t) made c.lines c.limit c.limit c.gates start borrow why (subst (λ (q : Comparison). IsNotComparable q why) there said);
+      comparable = λ said. comparable_moved t.params (length s.nodes) (writes_of t) (node_function s) (write_function t) (outputs_of t) (outputs_on t) made
+          c.lines c.limit c.limit c.gates start borrow (subst IsComparable there said);
       verified = λ said. verified_moved t.params (length s.nodes) (writes_of t) (node_function s) (write_function t) (outputs_of t) (outputs_on t) made
           c.lines c.limit c.limit c.gates start borrow (subst IsVerified there said);
       refused = λ fault said. fault_moved t.params (length s.nodes) (writes_of t) (node_function s) (write_function t) (outputs_of t) (outputs_on t) made

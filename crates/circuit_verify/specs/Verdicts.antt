@@ -8,6 +8,8 @@ use Rattle.decision_diagram.specs.declared.node.DdFault.{DdFault}
 use Rattle.decision_diagram.specs.declared.node.DdFault.TheVariants as dd
 use Rattle.claim_check.specs.Settled.{SettledView, IsSettledOf}
 use Rattle.mct_circuit.specs.Gates.{CircuitView, GateView, IsNarrow, AreNarrow, line_map}
+use Rattle.circuit_verify.specs.declared.fault.NotComparable.{NotComparable}
+use Rattle.circuit_verify.specs.declared.fault.NotComparable.TheVariants.{Lines, Gate}
 use Rattle.circuit_verify.specs.declared.fault.VerifyFault.{VerifyFault}
 use Rattle.circuit_verify.specs.declared.fault.VerifyFault.TheVariants as faults
 use Rattle.circuit_plans.specs.declared.roles.Start.{Start}
@@ -29,6 +31,11 @@ pub record IsComparable (q : Comparison) : Type 0 where
 -- the gate at this place, counted from 0, is the first that is no such flip
 abbrev pub IsFirstWide : List GateView → ℕ → Type 0
 IsFirstWide gates at = IsFirstWithout IsNarrow gates at
+
+-- why the two cannot be compared: first the lines, then the gates
+abbrev pub IsNotComparable : Comparison → NotComparable → Type 0
+IsNotComparable q (Lines need) = (q.circuit.lines < need) × (need ≡ least_lines q)
+IsNotComparable q (Gate gate) = HasEnoughLines q × IsFirstWide q.circuit.gates gate
 
 -- ---- where the circuit differs
 
@@ -58,10 +65,8 @@ pub record IsVerified (q : Comparison) : Type 0 where
   pub comparable : IsComparable q
   pub agrees : Agrees q
 
--- why a circuit is not verified; memory is wanted only for a circuit that can be compared
+-- why a circuit that can be compared is not verified
 abbrev pub IsVerifyFault : Comparison → ℕ → VerifyFault → Type 0
-IsVerifyFault q limit (faults.Lines need) = (q.circuit.lines < need) × (need ≡ least_lines q)
-IsVerifyFault q limit (faults.Gate gate) = HasEnoughLines q × IsFirstWide q.circuit.gates gate
 IsVerifyFault q limit (faults.Diagram nodes) = IsComparable q × HasMore q limit × (nodes ≡ limit)
 IsVerifyFault q limit (faults.Differs line bits) = IsComparable q × DiffersFirst q line bits
 IsVerifyFault q limit (faults.Memory _) = IsComparable q
@@ -91,6 +96,11 @@ ComparisonsEndInOneWay = (q : Comparison) → EndsInOneWay q
 -- what is said of the settled graph of a tape is said of the tape
 pub record IsSaidOfTape (t : TapeView) (s : SettledView) (c : CircuitView) (start : Start)
     (borrow limit : ℕ) : Type 0 where
+  pub not_comparable : (why : NotComparable)
+      → IsNotComparable (beside (of_settled t.params s) c start borrow) why
+      → IsNotComparable (beside (of_tape t) c start borrow) why
+  pub comparable : IsComparable (beside (of_settled t.params s) c start borrow)
+      → IsComparable (beside (of_tape t) c start borrow)
   pub verified : IsVerified (beside (of_settled t.params s) c start borrow)
       → IsVerified (beside (of_tape t) c start borrow)
   pub refused : (fault : VerifyFault)

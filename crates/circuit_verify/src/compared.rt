@@ -1,9 +1,15 @@
 // A circuit beside the settled graph that it is to compute.
-ghost use Rattle.std.specs.Prelude.{◌≡◌, ◌≤◌, ◌+◌, length, sum};
-ghost use Rattle.circuit_verify.specs.Comparisons.{inputs_in, output_variables, variables_in};
+ghost use Rattle.std.specs.Prelude.{◌≡◌, ◌≤◌, ◌+◌, length, sum, IfErr, IfOk};
+ghost use Rattle.revs_tape.specs.Tapes.{AreWidths};
+ghost use Rattle.circuit_plans.specs.declared.plan.TheConstants.{MOST_BORROWED};
+ghost use Rattle.circuit_verify.specs.Comparisons.{beside, inputs_in, of_settled};
+ghost use Rattle.circuit_verify.specs.Comparisons.{output_variables, variables_in};
 ghost use Rattle.circuit_verify.specs.Comparisons.{work_lines};
 ghost use Rattle.circuit_verify.specs.Compared.{IsReady, comparison, ComparedView};
+ghost use Rattle.circuit_verify.specs.Verdicts.{IsNotComparable};
 
+use crate::NotComparable;
+use crate::gates::first_wide;
 use circuit_plans::Start;
 use claim_check::Settled;
 use mct_circuit::Circuit;
@@ -46,6 +52,52 @@ impl<'s> Model for Compared<'s> {
 }
 
 impl<'s> Compared<'s> {
+    /// A circuit beside the settled graph whose outputs it is to compute, with parameters of these
+    /// widths: its lines are those of the inputs, then those of the outputs, which may hold before
+    /// the gates what `start` lets them hold, then the work lines, then the last `borrow` lines,
+    /// which may hold anything. It takes no memory.
+    ///
+    /// # Errors
+    ///
+    /// In this order: `Lines` exactly where there are too few, `Gate` exactly where a gate is no
+    /// flip with at most two controls, all positive.
+    pub fn of(
+        graph: &'s Settled,
+        params: &'s [u32],
+        circuit: &'s Circuit,
+        start: Start,
+        borrow: u32,
+    ) -> Result<Compared<'s>, NotComparable>
+        requires widths { AreWidths params.now }
+        requires inputs { sum params.now ≡ graph.now.inputs }
+        requires borrow { borrow ≤ MOST_BORROWED }
+        ensures made { IfOk result (λ compared. compared ≡ record {
+          graph = graph.now;
+          params = params.now;
+          circuit = circuit.now;
+          start = start;
+          borrow = borrow;
+        }) }
+        ensures ready { IfOk result IsReady }
+        ensures refused { IfErr result (IsNotComparable
+            (beside (of_settled params.now graph.now) circuit.now start borrow)) }
+    {
+        let need = graph.inputs() + graph.outputs().len() as u32 + borrow;
+        if circuit.lines() < need {
+            return Err(NotComparable::Lines { need });
+        }
+        if let Some(gate) = first_wide(circuit.gates()) {
+            return Err(NotComparable::Gate { gate });
+        }
+        Ok(Compared {
+            graph,
+            params,
+            circuit,
+            start,
+            borrow,
+        })
+    }
+
     /// The number of inputs, of output lines that have variables, and of borrowed lines.
     pub fn variables(&self) -> u32
         ensures count { result ≡ variables_in (comparison self.now) }

@@ -7,14 +7,19 @@ use decision_diagram::DdFault;
 use revc_base::{Bits, Memory, WantOfMemory};
 use std::alloc::{AllocError, AllocFailed};
 
-/// Why a circuit is not verified against a program. Lines and gates are counted from 0.
-#[derive(Debug, Drop)]
-pub enum VerifyFault {
+/// Why a circuit cannot be compared with a program. Gates are counted from 0.
+#[derive(Clone, Copy, Debug, PartialEq, Eq)]
+pub enum NotComparable {
     /// The circuit has fewer lines than `need`: one for each input and each output, and the
     /// borrowed ones.
     Lines { need: u32 },
     /// The gate is the first that is no flip with at most two controls, all positive.
     Gate { gate: u64 },
+}
+
+/// Why a circuit that can be compared is not verified against a program. Lines are counted from 0.
+#[derive(Debug, Drop)]
+pub enum VerifyFault {
     /// The nodes of the program and the lines of the circuit have more functions than the limit
     /// `nodes`, with their first variables fixed and without constants.
     Diagram { nodes: u32 },

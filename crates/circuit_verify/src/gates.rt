@@ -7,9 +7,9 @@ ghost use Rattle.circuit_verify.specs.Verdicts.{IsFirstWide};
 use gate_split::is_narrow;
 use mct_circuit::{Gate, Op};
 
-/// The first gate, counted from 0, that is no flip with at most two controls, all positive.
+// The first gate, counted from 0, that is no flip with at most two controls, all positive.
 #[tactic(auto, using(list_facts::proofs::FirstLemmas::first_without))]
-pub fn first_wide(gates: &[Gate]) -> Option<u64>
+pub(crate) fn first_wide(gates: &[Gate]) -> Option<u64>
     ensures { MatchOption result (AreNarrow gates.now) (IsFirstWide gates.now) }
 {
     for (at, gate) in gates.iter().enumerate() {

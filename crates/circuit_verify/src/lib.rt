@@ -17,7 +17,7 @@ mod verifying;
 mod walking;
 
 pub use compared::Compared;
-pub use fault::VerifyFault;
-pub use gates::{first_wide, target_of};
+pub use fault::{NotComparable, VerifyFault};
+pub use gates::target_of;
 pub use law::{comparisons_end_in_one_way, said_of_tapes};
 pub use verifying::verify;

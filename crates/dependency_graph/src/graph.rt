@@ -1,11 +1,10 @@
 // The graph of a tape.
-ghost use Rattle.std.specs.Prelude.{◌≡◌, ◌<◌, ◌≤◌, length, slice_get, Some, IfOk};
+ghost use Rattle.std.specs.Prelude.{◌≡◌, ◌<◌, length, slice_get, Some, IfOk};
 ghost use Rattle.revs_tape.specs.Measures.{inputs_of, writes_of};
 ghost use Rattle.revs_tape.specs.Tapes.{IsKnown};
 ghost use Rattle.dependency_graph.specs.Graphs.{IsGraph, IsGraphOf, sig_of, GraphView};
 ghost use Rattle.dependency_graph.specs.Folds.{graph_of};
-ghost use Rattle.dependency_graph.specs.Uses.{cut_in, last_use_in};
-ghost use Rattle.list_facts.specs.Lists.{IsRising};
+ghost use Rattle.dependency_graph.specs.Uses.{last_use_in};
 ghost use Rattle.dependency_graph.specs.inside.Fields.{view_of, IsKept};
 
 use crate::fold::{fold, sig_of, sigs_of};
@@ -103,20 +102,5 @@ impl Graph {
         ensures { result ≡ last_use_in self.now n }
     {
         self.last_uses[n as usize]
-    }
-
-    /// The nodes below `j` that are an output, or an operand of node `j` or of a later one, rising.
-    pub fn cut(&self, j: u32) -> Result<Vec<u32>, Memory>
-        requires { j ≤ length self.now.nodes }
-        ensures cut { IfOk result (λ cut. cut.items ≡ cut_in self.now j) }
-        ensures rising { IfOk result (λ cut. IsRising cut.items) }
-    {
-        let mut cut = Vec::new(*self.nodes.allocator());
-        for n in 0..j {
-            if self.last_use(n) >= j {
-                cut.push(n)?;
-            }
-        }
-        Ok(cut)
     }
 }

@@ -15,7 +15,7 @@ use Rattle.program_commands.specs.Bench.{AreSizesOf, IsBenched, bench_text}
 use Rattle.program_commands.specs.Gen as gen
 use Rattle.program_commands.specs.inside.Plans.{IsPlannedFor}
 use Rattle.program_commands.proofs.CompileLemmas.{among_budgets, budgets_alone, fits_free, no_exact_budget}
-use Rattle.program_gen.specs.Adder.{adder_text}
+use Rattle.arith_templates.specs.Adder.{adder_text}
 use Rattle.revs_tape.specs.Tapes.{TapeView}
 use Rattle.revc_words.specs.Words.{OrderView}
 

@@ -1,3 +1,6 @@
 pub mod CompileLemmas
 pub mod PlanLemmas
 pub mod BenchLemmas
+pub mod ArithTextLemmas
+pub mod ArithCircuitLemmas
+pub mod ArithOutcomeLemmas

@@ -9,7 +9,7 @@ use Rattle.mct_circuit.specs.Gates.{GateView}
 use Rattle.mct_circuit.specs.Sizes.{depth_of}
 use Rattle.program_commands.specs.declared.bench.BenchSizes.{BenchSizes}
 use Rattle.program_commands.specs.Compile.{HasCircuit, HasFittingRow, PassesBudget}
-use Rattle.program_gen.specs.Adder.{adder_text}
+use Rattle.arith_templates.specs.Adder.{adder_text}
 use Rattle.revs_tape.specs.Measures.{HasWidth, inputs_of, outputs_of, writes_of}
 use Rattle.revs_tape.specs.Tapes.{TapeView}
 use Rattle.revc_words.specs.Words.{OrderView}

@@ -2,7 +2,7 @@
 use Rattle.std.specs.Prelude.{◌≡◌, ℕ, List, None, []}
 use Rattle.command_answers.specs.Outcomes.{Promise, exact_promise}
 use Rattle.command_answers.specs.declared.fault.Fault.{Fault}
-use Rattle.program_gen.specs.Adder.{adder_text}
+use Rattle.arith_templates.specs.Adder.{adder_text}
 use Rattle.revc_words.specs.Words.{OrderView}
 
 -- what is written: the text of the adder of so many bits, whatever is on the source

@@ -6,15 +6,15 @@ ghost use Rattle.program_commands.specs.Bench.{promise, AreSizesOf, IsBenched};
 ghost use Rattle.program_commands.specs.Bench.{bench_text};
 ghost use Rattle.program_commands.specs.Outcomes.{IsAdderSize, IsBudgetFault, IsCompileFault};
 ghost use Rattle.program_texts.specs.Settling.{LeavesTape};
-ghost use Rattle.program_gen.specs.Adder.{adder_text};
+ghost use Rattle.arith_templates.specs.Adder.{adder_text};
 ghost use Rattle.revc_io.specs.Faults.{HasCause};
 ghost use Rattle.revc_io.specs.Passing.{Writes};
 ghost use Rattle.revc_words.specs.Words.{IsWithinLimits, order_of};
 
 use crate::planning::plan_tape;
+use arith_templates::Kind;
 use circuit_plans::Laid;
 use command_answers::{Fault, write_numbers};
-use program_gen::program_text;
 use program_texts::tape_of_text;
 use revc_io::{Failed, Sink};
 use revc_words::Order;
@@ -50,7 +50,7 @@ pub fn measure(alloc: Global, order: &Order) -> Result<BenchSizes, Fault>
     ensures ok { IfOk result (λ sizes. IsBenched (order_of order.now) (bench_text sizes)) }
     ensures err { IfErr result (IsBudgetFault (order_of order.now) (adder_text order.now.number)) }
 {
-    let text = program_text(alloc, order.number)?;
+    let text = arith_templates::text(alloc, Kind::Add, order.number, 0)?;
     let tape = tape_of_text(alloc, text.as_slice())?;
     measure_tape(alloc, &tape, order)
 }

@@ -3,11 +3,11 @@ ghost use Rattle.std.specs.Prelude.{◌≡◌, IfOk};
 ghost use Rattle.command_answers.specs.Outcomes.{HasOneOutcome};
 ghost use Rattle.program_commands.specs.Gen.{promise};
 ghost use Rattle.program_commands.specs.Outcomes.{IsAdderSize};
-ghost use Rattle.program_gen.specs.Adder.{adder_text};
+ghost use Rattle.arith_templates.specs.Adder.{adder_text};
 ghost use Rattle.revc_io.specs.Faults.{HasCause};
 ghost use Rattle.revc_io.specs.Passing.{Writes};
 
-use program_gen::program_text;
+use arith_templates::{Kind, text};
 use revc_base::Memory;
 use revc_io::{Failed, Sink, write_whole};
 use std::alloc::Global;
@@ -22,7 +22,7 @@ pub fn program(alloc: Global, number: u32) -> Result<Vec<u8>, Memory>
     requires { IsAdderSize number }
     ensures { IfOk result (λ text. text.items ≡ adder_text number) }
 {
-    program_text(alloc, number)
+    text(alloc, Kind::Add, number, 0)
 }
 
 /// Writes the text of a program. It takes no memory.

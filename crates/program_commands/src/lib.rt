@@ -1,7 +1,8 @@
-//! The commands that make a circuit of a program, `compile` and `bench`, and the one that makes a
-//! program, `gen`.
+//! The commands that make a circuit of a program, `compile` and `bench`, the one that makes a
+//! program, `gen`, and the one that makes either, `arith`.
 #![tactic(auto)]
 
+pub mod arith;
 pub mod bench;
 pub mod compile;
 pub mod generate;

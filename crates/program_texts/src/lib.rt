@@ -4,6 +4,7 @@
 
 pub mod check;
 pub mod eval;
+mod fault;
 mod program;
 mod settling;
 

@@ -16,7 +16,7 @@ use Rattle.circuit_commands.specs.Run as run
 use Rattle.circuit_commands.specs.Convert as convert
 use Rattle.circuit_commands.specs.Tidy as tidy
 use Rattle.verify_command.specs.Verify as verify
-use Rattle.arith_command.specs.Arith as arith
+use Rattle.program_commands.specs.Arith as arith
 
 abbrev pub promise_of : Command → Promise
 promise_of commands.Compile = compile.promise

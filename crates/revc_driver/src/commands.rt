@@ -1,18 +1,15 @@
-// The commands, each by its law, the limit of its text, and what an order of it makes of a text
-// before anything is written: that takes all memory, and meets every fault but that of writing.
+// The commands: the limit of the text of each, and what an order of it makes of a text before
+// anything is written: that takes all memory, and meets every fault but that of writing.
 ghost use Rattle.std.specs.Prelude.{◌≡◌, ◌<◌, ◌≤◌, length, IfOk, IfErr};
 ghost use Rattle.revc_io.specs.Faults.{HasCause};
 ghost use Rattle.revc_io.specs.Passing.{Writes};
 ghost use Rattle.revc_words.specs.Words.{IsWithinLimits, order_of};
-ghost use Rattle.command_answers.specs.Outcomes.{HasOneOutcome};
 ghost use Rattle.program_texts.specs.Refusals.{program_limit};
 ghost use Rattle.circuit_commands.specs.Circuits.{circuit_limit};
 ghost use Rattle.revc_driver.specs.Commands.{Gives, most_bytes, promise_of, reads_of};
 ghost use Rattle.revc_driver.specs.inside.Ends.{IsCauseOrMemory};
 ghost use Rattle.revc_driver.specs.inside.Outcomes.{CanBeWritten, text_of};
 
-use arith_command::arith;
-use arith_command::arith::Made;
 use circuit_commands::convert::Converted;
 use circuit_commands::stat::Sizes;
 use circuit_commands::{MOST_CIRCUIT_BYTES, convert, run, stat, tidy};
@@ -20,8 +17,9 @@ use circuit_plans::Laid;
 use command_answers::{
     CircuitRefusal, Fault, Refusal, TextLimit, write_digits, write_lines, write_number,
 };
+use program_commands::arith::Made;
 use program_commands::bench::BenchSizes;
-use program_commands::{bench, compile, generate};
+use program_commands::{arith, bench, compile, generate};
 use program_texts::{check, eval};
 use revc_base::Bits;
 use revc_io::{Failed, Sink};
@@ -74,25 +72,6 @@ impl Prepared {
             Prepared::Verified => verify::write(out),
             Prepared::Arith(made) => arith::write(made, out),
         }
-    }
-}
-
-/// A command has one outcome.
-pub fn one_outcome(command: Command)
-    ensures { HasOneOutcome (promise_of command) }
-{
-    match command {
-        Command::Compile => compile::one_outcome(),
-        Command::Check => check::one_outcome(),
-        Command::Eval => eval::one_outcome(),
-        Command::Stat => stat::one_outcome(),
-        Command::Run => run::one_outcome(),
-        Command::Convert => convert::one_outcome(),
-        Command::Tidy => tidy::one_outcome(),
-        Command::Gen => generate::one_outcome(),
-        Command::Bench => bench::one_outcome(),
-        Command::Verify => verify::one_outcome(),
-        Command::Arith => arith::one_outcome(),
     }
 }
 

@@ -6,10 +6,10 @@ ghost use Rattle.revc_driver.specs.inside.Ends.{Ends, IsReadFrom, IsUnreadFor};
 ghost use Rattle.revc_driver.specs.inside.Mappings.{reading_fault, words_fault};
 ghost use Rattle.revc_words.specs.Words.{words_of};
 
-use crate::commands::{limit_of, one_outcome, prepare};
+use crate::commands::{limit_of, prepare};
 use command_answers::{Fault, TextLimit, report};
 use revc_io::{ReadFault, Sink, Source, read_up_to};
-use revc_words::{WordsFault, orders_are_within_limits, read_words};
+use revc_words::{WordsFault, read_words};
 use std::alloc::Global;
 
 /// Does what the words of the command line ask for, without the program's own name, and answers the
@@ -51,9 +51,6 @@ fn run<S: Source, K: Sink>(
         Ok(order) => order,
         Err(fault) => return Err(words_fault(fault)),
     };
-    // These calls say that the command has one outcome, and the order is within its limits.
-    one_outcome(order.command);
-    orders_are_within_limits();
     let text = read_text(alloc, limit_of(order.command), source)?;
     let prepared = prepare(alloc, &order, text)?;
     match prepared.write(out) {

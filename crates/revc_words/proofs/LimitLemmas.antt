@@ -3,9 +3,8 @@ use Rattle.std.proofs.Common.{◌≡◌, ℕ, ◌≤◌, List, Option, Some, Non
 use Rattle.std.proofs.lemmas.Bool.{false≢true}
 use Rattle.arith_templates.specs.declared.kind.Kind.{Kind}
 use Rattle.arith_templates.specs.declared.kind.Kind.TheVariants.{Add, Mul}
-use Rattle.arith_templates.specs.declared.limits.TheConstants.{MOST_FACTOR}
+use Rattle.arith_templates.specs.declared.limits.TheConstants.{MOST_BITS, MOST_FACTOR}
 use Rattle.circuit_plans.specs.declared.plan.TheConstants.{MOST_LINES, MOST_GATES, MOST_BORROWED}
-use Rattle.program_gen.specs.declared.adder.TheConstants.{MOST_BITS}
 use Rattle.revc_words.specs.declared.limits.TheConstants.{MOST_NODES, USUAL_LINES, USUAL_GATES, USUAL_NODES}
 use Rattle.revc_words.specs.declared.commands.Positional.{Positional}
 use Rattle.revc_words.specs.declared.commands.Positional.TheVariants.{Nothing, Word, Words, Number, KindAndNumber}

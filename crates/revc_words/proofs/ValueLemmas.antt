@@ -247,7 +247,7 @@ format_rule usual = record {
   no_option = λ word format is. ap is_option is ∙ format_is_no_option format;
 }
 
-abbrev pub plan_rule : Rule How
+abbrev pub plan_rule : Rule Plan
 plan_rule = record {
   value = plan_of;
   Writes = λ word plan. word ≡ plan_word plan;

@@ -8,13 +8,12 @@ use Rattle.std.specs.Global.{Global}
 use Rattle.std.specs.declared.string.String.{String}
 use Rattle.arith_templates.specs.declared.kind.Kind.{Kind}
 use Rattle.arith_templates.specs.declared.kind.Kind.TheVariants.{Add, Sub, Less, Inc, Mul}
-use Rattle.arith_templates.specs.declared.limits.TheConstants.{MOST_FACTOR}
+use Rattle.arith_templates.specs.declared.limits.TheConstants.{MOST_BITS, MOST_FACTOR}
 use Rattle.circuit_plans.specs.declared.plan.TheConstants.{MOST_LINES, MOST_GATES, MOST_BORROWED}
 use Rattle.circuit_plans.specs.declared.choice.Plan.{Plan}
 use Rattle.circuit_plans.specs.declared.choice.Plan.TheVariants.{Auto, Compact, Eager, Lean, Pebble}
 use Rattle.circuit_plans.specs.declared.roles.Start.{Start}
 use Rattle.circuit_plans.specs.declared.roles.Start.TheVariants.{Any, Zero}
-use Rattle.program_gen.specs.declared.adder.TheConstants.{MOST_BITS}
 use Rattle.revc_words.specs.declared.limits.TheConstants.{MOST_DIGITS, MOST_NODES, USUAL_LINES, USUAL_GATES, USUAL_NODES}
 use Rattle.revc_words.specs.Commands.{factor_option, name_of, options_of, takes_of, way_option}
 use Rattle.revc_words.specs.declared.commands.Command.{Command}
@@ -42,7 +41,7 @@ words_of words = map string_bytes words
 -- what is written of it, how many bits its numbers have, and words of bits
 pub record OrderView : Type 0 where
   pub command : Command
-  pub plan : How
+  pub plan : Plan
   pub lines : ℕ
   pub gates : ℕ
   pub borrow : ℕ

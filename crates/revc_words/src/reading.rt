@@ -10,9 +10,8 @@ ghost use Rattle.revc_words.specs.inside.Parsing.{order_for, takes_factor, with_
 use crate::parsing::matched;
 use crate::values::{kind, number, values_given};
 use crate::{Command, Order, Positional, Values, WordsFault};
-use arith_templates::Kind;
+use arith_templates::{Kind, MOST_BITS};
 use clap::ArgMatches;
-use program_gen::MOST_BITS;
 use revc_base::Memory;
 use std::alloc::Global;
 

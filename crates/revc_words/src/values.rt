@@ -8,7 +8,7 @@ ghost use Rattle.revc_words.specs.inside.Parsing.{format_of, start_of, way_of, w
 
 use crate::{Command, Format, MOST_DIGITS, MOST_NODES, Values, Way, Write};
 use arith_templates::{Kind, MOST_FACTOR};
-use circuit_plans::{Plan, MOST_BORROWED, MOST_GATES, MOST_LINES, Start};
+use circuit_plans::{MOST_BORROWED, MOST_GATES, MOST_LINES, Plan, Start};
 use clap::ArgMatches;
 
 /// The values of the texts that are given to a command: what has no text has its usual value.

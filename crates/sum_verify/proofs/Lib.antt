@@ -1,4 +1,3 @@
-pub mod FaultLemmas
 pub mod FormLemmas
 pub mod FlipLemmas
 pub mod JudgeLemmas

@@ -1,4 +1,4 @@
 -- What only private contracts and proofs cite.
 pub mod Forms
 pub mod Nodes
-pub mod Stops
+pub mod Faults

@@ -8,7 +8,6 @@
 
 mod fault;
 mod judging;
-mod law;
 mod nodes;
 mod outputs;
 mod start;
@@ -16,5 +15,4 @@ mod verifying;
 mod walking;
 
 pub use fault::SumsFault;
-pub use law::refusals_said_of_tapes;
 pub use verifying::verify;

@@ -1,14 +1,17 @@
 -- What the comparison of a settled graph with a circuit says of the tape and of the two texts.
-use Rattle.std.proofs.Common.{◌≡◌, inr, ℕ, ◌+◌, ◌<◌, ◌≤◌, List, ◌∷◌, Result}
-use Rattle.std.proofs.Common.{Ok, Err, false, length, sum, refl, sym, ap, ◌∙◌, subst, arith, length-append}
+use Rattle.std.proofs.Common.{◌≡◌, inr, ℕ, ◌<◌, ◌≤◌, ◌^◌, List, ◌∷◌, Result}
+use Rattle.std.proofs.Common.{Ok, Err, length, sum, refl, sym, ap, ◌∙◌, subst, arith, length-append}
 use Rattle.std.specs.Prelude.{OnOk}
 use Rattle.std.specs.Result.{IfErr}
 use Rattle.std.proofs.lemmas.List.{length-map}
 use Rattle.circuit_commands.specs.Circuits.{ReadCircuit, Means, line_count}
 use Rattle.circuit_commands.specs.Outcomes.{IsCircuitFault}
 use Rattle.circuit_commands.specs.declared.limits.TheConstants.{MOST_CIRCUIT_BYTES}
-use Rattle.circuit_verify.specs.Comparisons.{Comparison, beside, of_settled, of_tape, roles_in}
-use Rattle.circuit_verify.specs.Verdicts.{HasEnoughLines, IsFirstWide, IsVerified, IsVerifyFault}
+use Rattle.circuit_verify.specs.Compared.{ComparedView, comparison}
+use Rattle.circuit_verify.specs.Comparisons.{Comparison, of_tape, roles_in}
+use Rattle.circuit_verify.specs.Verdicts.{IsFirstWide, IsNotComparable, IsVerified, IsVerifyFault}
+use Rattle.circuit_verify.specs.declared.fault.NotComparable.{NotComparable}
+use Rattle.circuit_verify.specs.declared.fault.NotComparable.TheVariants as reasons
 use Rattle.circuit_verify.specs.declared.fault.VerifyFault.{VerifyFault}
 use Rattle.circuit_verify.specs.declared.fault.VerifyFault.TheVariants as verdicts
 use Rattle.circuit_verify.proofs.TapeLemmas.{said_of_tapes}
@@ -25,30 +28,15 @@ use Rattle.program_texts.specs.Settling.{ForTexts, IsSettledWithin, LeavesSettle
 use Rattle.revc_words.specs.Words.{OrderView}
 use Rattle.revs_tape.specs.Tapes.{TapeView, bit_on, outputs_on}
 use Rattle.revs_terms.proofs.TapeLemmas.{tape_gives_output}
-use Rattle.sum_verify.specs.Refusals.{IsSumsFault}
-use Rattle.sum_verify.specs.declared.fault.SumsFault.{SumsFault}
-use Rattle.sum_verify.specs.declared.fault.SumsFault.TheVariants as sums
-use Rattle.sum_verify.proofs.FaultLemmas.{refusals_said}
 use Rattle.verify_command.specs.Parting.{IsParted}
 use Rattle.verify_command.specs.Outcomes.{IsVerifyingFault}
-use Rattle.verify_command.specs.Verify.{AreVerified, Gives, HasDiagrams, HasWideGate, comparison_of, verified_text}
+use Rattle.verify_command.specs.Verify.{AreVerified, Gives, HasDiagrams, comparison_of, verified_text}
 use Rattle.verify_command.specs.declared.limits.TheConstants.{MOST_SOURCE_BYTES}
-use Rattle.verify_command.specs.inside.Mappings.{IsNamedIn, comparing_fault}
-use Rattle.verify_command.specs.inside.Stages.{IsComparingFault, IsPartsFault, SumsSay, comparison_with}
+use Rattle.verify_command.specs.inside.Mappings.{IsCountable, IsNamedIn, comparing_fault, not_comparable_fault}
+use Rattle.verify_command.specs.inside.Stages.{IsComparingFault, IsPartsFault, comparison_with}
 use Rattle.verify_command.proofs.LimitLemmas.{stops_circuit, verified_circuit}
 
--- ---- the comparison of a tape
-
-wide_gate : (q : Comparison) (gate : ℕ) → HasEnoughLines q → IsFirstWide q.circuit.gates gate → HasWideGate q (gate + 1)
-wide_gate q gate enough first = record { enough = enough; before = gate; first = first; count = refl }
-
-comparing : (order : OrderView) (q : Comparison) (fault : VerifyFault) → HasDiagrams order.way → IsVerifyFault q order.nodes fault
-    → IsComparingFault order (comparing_fault q.circuit fault) q
-comparing order q (verdicts.Lines need) way is = (refl, is.0, is.1)
-comparing order q (verdicts.Gate gate) way is = wide_gate q gate is.0 is.1
-comparing order q (verdicts.Diagram nodes) way is = (way, is.0, is.1, is.2)
-comparing order q (verdicts.Differs line bits) way is = (way, record { comparable = is.0; before = line; first = is.1; count = refl })
-comparing order q (verdicts.Memory _) way is = tt
+-- ---- why the two are not verified
 
 named_gate : (circuit : CircuitView) (gate : ℕ) → IsFirstWide circuit.gates gate → gate < length circuit.gates
 named_gate circuit gate first =
@@ -56,60 +44,81 @@ named_gate circuit gate first =
     let count = first.count in
     omega arith
 
-pub named : (q : Comparison) (limit : ℕ) (fault : VerifyFault) → IsVerifyFault q limit fault → IsNamedIn q.circuit fault
-named q limit (verdicts.Lines need) is = tt
-named q limit (verdicts.Gate gate) is = named_gate q.circuit gate is.1
-named q limit (verdicts.Diagram nodes) is = tt
-named q limit (verdicts.Differs line bits) is = is.1.in_range
-named q limit (verdicts.Memory _) is = tt
+named : (q : Comparison) (why : NotComparable) → IsNotComparable q why → IsNamedIn q.circuit why
+named q (reasons.Lines need) is = tt
+named q (reasons.Gate gate) is = named_gate q.circuit gate is.1
 
-pub tape_stops : (t : TapeView) (s : SettledView) (params : List ℕ) (circuit : CircuitView) (order : OrderView) (fault : VerifyFault) (given : Fault)
-    → params ≡ t.params → IsSettledOf t s → given ≡ comparing_fault circuit fault → HasDiagrams order.way
-    → IsVerifyFault (beside (of_settled params s) circuit order.outputs order.borrow) order.nodes fault
-    → IsComparingFault order given (comparison_with order t circuit)
-tape_stops t s params circuit order fault given same is named way h =
-    let said = (said_of_tapes t s is circuit order.outputs order.borrow order.nodes).refused fault
-    (subst (λ (ps : List ℕ). IsVerifyFault (beside (of_settled ps s) circuit order.outputs order.borrow) order.nodes fault) same h) in
-    subst (λ (f : Fault). IsComparingFault order f (comparison_with order t circuit)) (sym named)
-    (comparing order (comparison_with order t circuit) fault way said)
+not_comparing : (order : OrderView) (q : Comparison) (why : NotComparable) → IsNotComparable q why
+    → IsComparingFault order (not_comparable_fault q.circuit why) q
+not_comparing order q (reasons.Lines need) is = (refl, is.0, is.1)
+not_comparing order q (reasons.Gate gate) is = record { enough = is.0; before = gate; first = is.1; count = refl }
 
--- ---- the comparison of a tape by sums
+pub comparing : (order : OrderView) (q : Comparison) (fault : VerifyFault) → HasDiagrams order.way → IsVerifyFault q order.nodes fault
+    → IsComparingFault order (comparing_fault fault) q
+comparing order q (verdicts.Diagram nodes) way is = (way, is.0, is.1, is.2)
+comparing order q (verdicts.Differs line bits) way is = (way, record { comparable = is.0; before = line; first = is.1; count = refl })
+comparing order q (verdicts.Memory _) way is = tt
 
-pub sums_verified : (t : TapeView) (s : SettledView) (params : List ℕ) (circuit : CircuitView) (order : OrderView) → params ≡ t.params → IsSettledOf t s
-    → IsVerified (beside (of_settled params s) circuit order.outputs order.borrow) → IsVerified (comparison_with order t circuit)
-sums_verified t s params circuit order same is h =
+pub countable : (q : Comparison) (limit : ℕ) (fault : VerifyFault) → q.circuit.lines < 2 ^ 32 → IsVerifyFault q limit fault → IsCountable fault
+countable q limit (verdicts.Diagram nodes) few is = tt
+countable q limit (verdicts.Differs line bits) few is = let low = is.1.in_range in omega arith
+countable q limit (verdicts.Memory _) few is = tt
+
+-- ---- the comparison of a tape
+
+-- the two, as they are compared
+abbrev pub settled_beside : List ℕ → SettledView → CircuitView → OrderView → ComparedView
+settled_beside params s circuit order = record { graph = s; params = params; circuit = circuit; start = order.outputs; borrow = order.borrow }
+
+pub tape_verified : (t : TapeView) (s : SettledView) (params : List ℕ) (circuit : CircuitView) (order : OrderView) (v : ComparedView)
+    → v ≡ settled_beside params s circuit order → params ≡ t.params → IsSettledOf t s → IsVerified (comparison v)
+    → IsVerified (comparison_with order t circuit)
+tape_verified t s params circuit order v made same is h =
     (said_of_tapes t s is circuit order.outputs order.borrow order.nodes).verified
-    (subst (λ (ps : List ℕ). IsVerified (beside (of_settled ps s) circuit order.outputs order.borrow)) same h)
+    (subst (λ (ps : List ℕ). IsVerified (comparison (settled_beside ps s circuit order))) same
+    (subst (λ (w : ComparedView). IsVerified (comparison w)) made h))
 
-sums_said : (t : TapeView) (s : SettledView) (params : List ℕ) (circuit : CircuitView) (order : OrderView) (fault named : SumsFault) → params ≡ t.params
-    → IsSettledOf t s → fault ≡ named → IsSumsFault (beside (of_settled params s) circuit order.outputs order.borrow) fault
-    → IsSumsFault (comparison_with order t circuit) named
-sums_said t s params circuit order fault named same is form h =
-    subst (λ (f : SumsFault). IsSumsFault (comparison_with order t circuit) f) form (refusals_said t s is circuit order.outputs order.borrow fault
-    (subst (λ (ps : List ℕ). IsSumsFault (beside (of_settled ps s) circuit order.outputs order.borrow) fault) same h))
+-- what stops the comparison with a settled graph stops that with its tape
+stops_tape : (t : TapeView) (s : SettledView) (circuit : CircuitView) (order : OrderView) (fault : Fault) → IsSettledOf t s
+    → IsComparingFault order fault (comparison (settled_beside t.params s circuit order)) → IsComparingFault order fault (comparison_with order t circuit)
+stops_tape t s circuit order (faults.FewLines lines need) is h =
+    let said = (said_of_tapes t s is circuit order.outputs order.borrow order.nodes).not_comparable (reasons.Lines need)
+    (subst (λ (n : ℕ). n < need) h.0 h.1, h.2) in
+    (h.0, h.1, said.1)
+stops_tape t s circuit order (faults.WideGate number) is h =
+    let said = (said_of_tapes t s is circuit order.outputs order.borrow order.nodes).not_comparable (reasons.Gate h.before) (h.enough, h.first) in
+    record { enough = said.0; before = h.before; first = said.1; count = h.count }
+stops_tape t s circuit order (faults.CircuitDiagram limit) is h =
+    let said = (said_of_tapes t s is circuit order.outputs order.borrow order.nodes).refused (verdicts.Diagram limit) (h.1, h.2, h.3) in
+    (h.0, said.0, said.1, said.2)
+stops_tape t s circuit order (faults.Differs number bits) is h =
+    let d = h.1 in
+    let said = (said_of_tapes t s is circuit order.outputs order.borrow order.nodes).refused (verdicts.Differs d.before bits) (d.comparable, d.first) in
+    (h.0, record { comparable = said.0; before = d.before; first = said.1; count = d.count })
+stops_tape t s circuit order faults.Unsettled is h =
+    (h.0, (said_of_tapes t s is circuit order.outputs order.borrow order.nodes).comparable h.1)
+stops_tape t s circuit order (faults.Memory _) is h = tt
+stops_tape t s circuit order fault is h = absurd h
 
-pub sums_unsettled : (t : TapeView) (s : SettledView) (params : List ℕ) (circuit : CircuitView) (order : OrderView) (fault : SumsFault)
-    → params ≡ t.params → IsSettledOf t s → fault ≡ sums.Unsettled → IsSumsFault (beside (of_settled params s) circuit order.outputs order.borrow) fault
-    → SumsSay false (comparison_with order t circuit)
-sums_unsettled t s params circuit order fault same is form h = sums_said t s params circuit order fault sums.Unsettled same is form h
+pub tape_stopped : (t : TapeView) (s : SettledView) (params : List ℕ) (circuit : CircuitView) (order : OrderView) (v : ComparedView) (fault : Fault)
+    → v ≡ settled_beside params s circuit order → params ≡ t.params → IsSettledOf t s → IsComparingFault order fault (comparison v)
+    → IsComparingFault order fault (comparison_with order t circuit)
+tape_stopped t s params circuit order v fault made same is h =
+    stops_tape t s circuit order fault is
+    (subst (λ (ps : List ℕ). IsComparingFault order fault (comparison (settled_beside ps s circuit order))) same
+    (subst (λ (w : ComparedView). IsComparingFault order fault (comparison w)) made h))
 
-pub sums_few : (t : TapeView) (s : SettledView) (params : List ℕ) (circuit : CircuitView) (order : OrderView) (fault : SumsFault) (need : ℕ)
-    (given : Fault) → params ≡ t.params → IsSettledOf t s → fault ≡ sums.Lines need → given ≡ comparing_fault circuit (verdicts.Lines need)
-    → IsSumsFault (beside (of_settled params s) circuit order.outputs order.borrow) fault → IsComparingFault order given (comparison_with order t circuit)
-sums_few t s params circuit order fault need given same is form named h =
-    let said = sums_said t s params circuit order fault (sums.Lines need) same is form h in
-    subst (λ (f : Fault). IsComparingFault order f (comparison_with order t circuit)) (sym named) (refl, said.0, said.1)
+pub named_in : (params : List ℕ) (s : SettledView) (circuit : CircuitView) (order : OrderView) (why : NotComparable)
+    → IsNotComparable (comparison (settled_beside params s circuit order)) why → IsNamedIn circuit why
+named_in params s circuit order why is = named (comparison (settled_beside params s circuit order)) why is
 
-pub sums_wide : (t : TapeView) (s : SettledView) (params : List ℕ) (circuit : CircuitView) (order : OrderView) (fault : SumsFault) (gate : ℕ)
-    (given : Fault) → params ≡ t.params → IsSettledOf t s → fault ≡ sums.Gate gate → given ≡ comparing_fault circuit (verdicts.Gate gate)
-    → IsSumsFault (beside (of_settled params s) circuit order.outputs order.borrow) fault → IsComparingFault order given (comparison_with order t circuit)
-sums_wide t s params circuit order fault gate given same is form named h =
-    let said = sums_said t s params circuit order fault (sums.Gate gate) same is form h in
-    subst (λ (f : Fault). IsComparingFault order f (comparison_with order t circuit)) (sym named)
-    (wide_gate (comparison_with order t circuit) gate said.0 said.1)
-
-pub sums_named : (q : Comparison) (fault : SumsFault) (gate : ℕ) → fault ≡ sums.Gate gate → IsSumsFault q fault → gate < length q.circuit.gates
-sums_named q fault gate form h = named_gate q.circuit gate (subst (λ (f : SumsFault). IsSumsFault q f) form h).1
+pub tape_not_comparable : (t : TapeView) (s : SettledView) (params : List ℕ) (circuit : CircuitView) (order : OrderView) (why : NotComparable)
+    → params ≡ t.params → IsSettledOf t s → IsNotComparable (comparison (settled_beside params s circuit order)) why
+    → IsComparingFault order (not_comparable_fault circuit why) (comparison_with order t circuit)
+tape_not_comparable t s params circuit order why same is h =
+    not_comparing order (comparison_with order t circuit) why
+    ((said_of_tapes t s is circuit order.outputs order.borrow order.nodes).not_comparable why
+    (subst (λ (ps : List ℕ). IsNotComparable (comparison (settled_beside ps s circuit order)) why) same h))
 
 -- ---- the comparison of two texts
 

@@ -3,12 +3,12 @@ use Rattle.std.specs.Prelude.{ℕ, List}
 use Rattle.std.specs.List.{flat_map}
 use Rattle.revc_driver.specs.declared.commands.Prepared.{Prepared}
 use Rattle.revc_driver.specs.declared.commands.Prepared.TheVariants.{File, Claims, Digits, Lines, Stat, Converted, Program, Bench, Verified, Arith}
-use Rattle.arith_command.specs.Outcomes as arith
 use Rattle.circuit_commands.specs.Convert.{file_text}
 use Rattle.circuit_commands.specs.Stat.{stat_text}
 use Rattle.command_answers.specs.Lines.{bits_text}
 use Rattle.program_commands.specs.Bench.{bench_text}
 use Rattle.program_texts.specs.Check.{claims_text}
+use Rattle.program_commands.specs.Outcomes as programs
 use Rattle.program_commands.specs.Outcomes.{IsWritable, file_of}
 use Rattle.verify_command.specs.Verify.{verified_text}
 
@@ -23,7 +23,7 @@ text_of (Converted format converted) = file_text format converted.circuit conver
 text_of (Program text) = text.items
 text_of (Bench sizes) = bench_text sizes
 text_of Verified = verified_text
-text_of (Arith made) = arith.made_text made
+text_of (Arith made) = programs.made_text made
 
 abbrev pub CanBeWritten : Prepared → Type 0
 CanBeWritten (File format laid) = IsWritable laid
@@ -35,4 +35,4 @@ CanBeWritten (Converted format converted) = Unit {0}
 CanBeWritten (Program text) = Unit {0}
 CanBeWritten (Bench sizes) = Unit {0}
 CanBeWritten Verified = Unit {0}
-CanBeWritten (Arith made) = arith.CanBeWritten made
+CanBeWritten (Arith made) = programs.CanBeWritten made

@@ -9,13 +9,12 @@ use Rattle.clap.specs.Words.{App, Kinds, Row, Rule, all_of, fault_of, first_of, 
 use Rattle.clap.specs.declared.builder.action.ArgAction.TheVariants.{Append}
 use Rattle.arith_templates.specs.declared.kind.Kind.{Kind}
 use Rattle.arith_templates.specs.declared.kind.Kind.TheVariants.{Add, Sub, Less, Inc, Mul}
-use Rattle.arith_templates.specs.declared.limits.TheConstants.{MOST_FACTOR}
+use Rattle.arith_templates.specs.declared.limits.TheConstants.{MOST_BITS, MOST_FACTOR}
 use Rattle.circuit_plans.specs.declared.plan.TheConstants.{MOST_LINES, MOST_GATES, MOST_BORROWED}
 use Rattle.circuit_plans.specs.declared.choice.Plan.{Plan}
 use Rattle.circuit_plans.specs.declared.choice.Plan.TheVariants.{Auto, Compact, Eager, Lean, Pebble}
 use Rattle.circuit_plans.specs.declared.roles.Start.{Start}
 use Rattle.circuit_plans.specs.declared.roles.Start.TheVariants.{Any, Zero}
-use Rattle.program_gen.specs.declared.adder.TheConstants.{MOST_BITS}
 use Rattle.revc_words.specs.declared.limits.TheConstants.{MOST_DIGITS, MOST_NODES, USUAL_LINES, USUAL_GATES, USUAL_NODES}
 use Rattle.revc_words.specs.Commands.{factor_option, name_of, options_of, takes_of, way_option}
 use Rattle.revc_words.specs.declared.commands.Command.{Command}
@@ -123,7 +122,7 @@ abbrev pub number_of : ℕ → ℕ → List ℕ → Option ℕ
 number_of least most word =
     cond (is_number_in least most word) (Some (digits_value 10 word)) None
 
-abbrev pub plan_of : List ℕ → Option How
+abbrev pub plan_of : List ℕ → Option Plan
 plan_of word = first_with plan_word (Auto ∷ Compact ∷ Eager ∷ Lean ∷ Pebble ∷ []) word
 
 abbrev pub start_of : List ℕ → Option Start

@@ -1,7 +1,6 @@
 -- Why two parts of a source are not verified, or there was no memory left.
-use Rattle.std.specs.Prelude.{ℕ, Bool, true, false, List}
+use Rattle.std.specs.Prelude.{ℕ, List}
 use Rattle.circuit_verify.specs.Comparisons.{Comparison, beside, of_tape}
-use Rattle.circuit_verify.specs.Verdicts.{IsComparable, IsVerified}
 use Rattle.command_answers.specs.declared.fault.Fault.{Fault}
 use Rattle.command_answers.specs.declared.fault.Fault.TheVariants.{Memory}
 use Rattle.mct_circuit.specs.Gates.{CircuitView}
@@ -21,8 +20,3 @@ comparison_with order tape circuit = beside (of_tape tape) circuit order.outputs
 abbrev pub IsComparingFault : OrderView → Fault → Comparison → Type 0
 IsComparingFault order (Memory _) q = Unit {0}
 IsComparingFault order fault q = StopsComparing order fault q
-
--- sums verify a circuit, or leave one that can be compared unsettled
-abbrev pub SumsSay : Bool → Comparison → Type 0
-SumsSay true q = IsVerified q
-SumsSay false q = IsComparable q

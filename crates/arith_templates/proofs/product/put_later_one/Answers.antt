@@ -1,6 +1,6 @@
 use Rattle.std.proofs.Common.{◌≡◌, ℕ, ◌+◌, List, [], ◌∷◌, ◌++◌, codes, decimal, ap, refl, ◌∙◌, append_assoc, string_bytes}
 use Rattle.std.proofs.lemmas.Result.{on_ok_weaker}
-use Rattle.program_gen.specs.Places.{line}
+use Rattle.arith_templates.specs.Ripples.{line}
 use Rattle.arith_templates.specs.Texts.{add_line}
 use Rattle.arith_templates.proofs.product.put_later_one.Goals as goal
 

@@ -1,5 +1,5 @@
 use Rattle.program_commands.proofs.BenchLemmas.{benched, memory_stops}
-use Rattle.program_gen.specs.Adder.{adder_text}
+use Rattle.arith_templates.specs.Adder.{adder_text}
 use Rattle.revc_words.specs.Words.{order_of}
 use Rattle.revc_base.proofs.ResultLemmas.{passes_on}
 use Rattle.program_commands.proofs.bench.measure_tape.Goals as goal

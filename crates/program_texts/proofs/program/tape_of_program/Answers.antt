@@ -1,14 +1,21 @@
 use Rattle.revs_terms.specs.Views.{view_of}
-use Rattle.program_texts.proofs.TextLemmas.{leaves_tape, scope_stops, stuck_stops}
+use Rattle.program_texts.specs.inside.Stages.{ForTextsOf, LeavesNoTape, OfRun, OfScope}
+use Rattle.program_texts.proofs.TextLemmas.{leaves_tape, so_fails}
 use Rattle.program_texts.proofs.program.tape_of_program.Goals as goal
 
-pub returns-in-Ok-clause-left : goal.returns-in-Ok-clause-left
-returns-in-Ok-clause-left c =
-    leaves_tape (view_of c.args.program) (view_of c.in-Ok.scoped.program) c.run.result c.in-Ok.ensures.0 c.in-Ok.ensures.1 c.run.ensures.ok
+pub returns-in_err-scoped-clause-err : goal.returns-in_err-scoped-clause-err
+returns-in_err-scoped-clause-err c =
+    so_fails (OfScope c.in_err-scoped.field-0.0) (λ fault. ForTextsOf (view_of c.args.program) (λ text. LeavesNoTape text fault)) c.from_residual.result
+    c.from_residual.ensures.1 (λ fault of. of (view_of c.args.program) c.in_err-scoped.ensures)
 
-pub returns-in-Ok-clause-err : goal.returns-in-Ok-clause-err
-returns-in-Ok-clause-err c =
-    stuck_stops (view_of c.args.program) (view_of c.in-Ok.scoped.program) c.run.result c.in-Ok.ensures.0 c.in-Ok.ensures.1 c.run.ensures.err
+pub returns-in_err-unroll-clause-err : goal.returns-in_err-unroll-clause-err
+returns-in_err-unroll-clause-err c =
+    so_fails (OfRun c.in_err-unroll.field-0.0) (λ fault. ForTextsOf (view_of c.args.program) (λ text. LeavesNoTape text fault))
+    c.from_residual-in_err-unroll.result c.from_residual-in_err-unroll.ensures.1
+    (λ fault of. of (view_of c.args.program) (view_of c.in_ok-scoped.scoped.program)
+    (record { params = c.in_ok-scoped.ensures.0; body = c.in_ok-scoped.ensures.1 }) c.in_err-unroll.ensures.err)
 
-pub returns-in-Err-clause-err : goal.returns-in-Err-clause-err
-returns-in-Err-clause-err c = rw c.scope_fault.ensures (scope_stops (view_of c.args.program) c.in-Err.fault c.in-Err.ensures)
+pub returns-clause-left : goal.returns-clause-left
+returns-clause-left c =
+    leaves_tape (view_of c.args.program) (view_of c.in_ok-scoped.scoped.program) c.in_ok-unroll.field-0
+    (record { params = c.in_ok-scoped.ensures.0; body = c.in_ok-scoped.ensures.1 }) c.in_ok-unroll.ensures.ok

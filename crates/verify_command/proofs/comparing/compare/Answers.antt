@@ -1,8 +1,26 @@
-use Rattle.std.proofs.Common.{sym, subst}
+use Rattle.std.proofs.lemmas.Result.{IfErr-weaker, on_ok_weaker}
 use Rattle.revc_words.specs.Words.{order_of}
-use Rattle.verify_command.specs.Verify.{HasDiagrams}
-use Rattle.verify_command.specs.inside.Stages.{SumsSay, comparison_with}
+use Rattle.verify_command.proofs.ComparingLemmas.{named_in, tape_not_comparable, tape_stopped, tape_verified}
 use Rattle.verify_command.proofs.comparing.compare.Goals as goal
 
-pub by_diagrams-requires-clause-way : goal.by_diagrams-requires-clause-way
-by_diagrams-requires-clause-way c = subst HasDiagrams (sym c.in-Diagrams.is) tt
+pub returns-in-Ok-clause-ok : goal.returns-in-Ok-clause-ok
+returns-in-Ok-clause-ok c =
+    on_ok_weaker c.by_way.result
+    (tape_verified c.args.tape.now c.args.graph.now c.params.result.now c.args.circuit.now (order_of c.args.order.now) c.in-Ok.compared
+    c.in-Ok.ensures.made c.params.ensures.params c.requires.settled) c.by_way.ensures.ok
+
+pub returns-in-Ok-clause-err : goal.returns-in-Ok-clause-err
+returns-in-Ok-clause-err c =
+    IfErr-weaker c.by_way.result _ _
+    (λ fault h. tape_stopped c.args.tape.now c.args.graph.now c.params.result.now c.args.circuit.now (order_of c.args.order.now) c.in-Ok.compared fault
+    c.in-Ok.ensures.made c.params.ensures.params c.requires.settled h) c.by_way.ensures.err
+
+pub not_comparable_fault-requires : goal.not_comparable_fault-requires
+not_comparable_fault-requires c =
+    named_in c.params.result.now c.args.graph.now c.args.circuit.now (order_of c.args.order.now) c.in-Err.why c.in-Err.ensures.refused
+
+pub returns-in-Err-clause-err : goal.returns-in-Err-clause-err
+returns-in-Err-clause-err c =
+    rw c.not_comparable_fault.ensures
+    (tape_not_comparable c.args.tape.now c.args.graph.now c.params.result.now c.args.circuit.now (order_of c.args.order.now) c.in-Err.why
+    c.params.ensures.params c.requires.settled c.in-Err.ensures.refused)

@@ -1,3 +1,0 @@
-pub mod Adder
-pub mod Limits
-pub mod Places
