@@ -6,7 +6,7 @@ use Rattle.circuit_plans.specs.Plans.{BudgetView}
 use Rattle.sum_graph.specs.Graphs.{SumGraphView}
 use Rattle.held_nodes.specs.Held.{ForwardView, work_lines}
 use Rattle.bennett_pebbling.specs.Pebbling.{IsLight}
-use Rattle.held_nodes.specs.Moves.{weight_in}
+use Rattle.mct_circuit.specs.Sizes.{weight_in}
 use Rattle.bennett_pebbling.specs.inside.Costs.{HasNeed, IsHeavy, IsMove, IsMoveFault, IsShort, price_if}
 
 -- nothing is moved

@@ -26,9 +26,11 @@ use Rattle.circuit_plans.specs.Plans.{BudgetView, PlannedView}
 use Rattle.mct_circuit.specs.Gates.{AreNarrow}
 use Rattle.mct_circuit.specs.Sizes.{weight_of}
 use Rattle.mct_circuit.proofs.WeightLemmas.{length-le-weight}
-use Rattle.held_nodes.specs.Held.{ForwardView, IsForward, first_work, is_held, work_lines}
-use Rattle.held_nodes.specs.Moves.{IsFinishFault, IsReadySum, finished_gates, finished_weight, nothing_held, planned_of, weight_in}
-use Rattle.held_nodes.specs.Plans.{wanted_lines}
+use Rattle.held_nodes.specs.Held.{ForwardView, IsForward, is_held, work_lines}
+use Rattle.sum_graph.specs.Graphs.{first_work}
+use Rattle.held_nodes.specs.Moves.{IsFinishFault, IsReadySum, finished_gates, finished_weight, nothing_held, planned_of}
+use Rattle.mct_circuit.specs.Sizes.{weight_in}
+use Rattle.circuit_plans.specs.Plans.{wanted_lines}
 use Rattle.held_nodes.proofs.NarrowLemmas.{narrow_toggles}
 use Rattle.bennett_pebbling.specs.Blocks.{IsHalved}
 use Rattle.bennett_pebbling.specs.Pebbling.{HasFewProducts, HasLineEach, HasNoLineEach, IsLight, IsPebblingFault, IsWithinBlock, extent_of, plain_weight}

@@ -15,8 +15,10 @@ use Rattle.circuit_plans.specs.declared.plan.PlanFault.{PlanFault}
 use Rattle.circuit_plans.specs.declared.plan.PlanFault.TheVariants.{Lines, Gates, Memory}
 use Rattle.mct_circuit.specs.Gates.{GateView}
 use Rattle.mct_circuit.specs.Sizes.{weight_of}
-use Rattle.held_nodes.specs.Held.{ForwardView, IsForward, first_work, held_count, held_line, is_held}
-use Rattle.held_nodes.specs.Moves.{IsToggled, IsToggleFault, TakesLine, toggle_of, weight_in}
+use Rattle.held_nodes.specs.Held.{ForwardView, IsForward, held_count, held_line, is_held}
+use Rattle.sum_graph.specs.Graphs.{first_work}
+use Rattle.held_nodes.specs.Moves.{IsToggled, IsToggleFault, TakesLine, toggle_of}
+use Rattle.mct_circuit.specs.Sizes.{weight_in}
 use Rattle.held_nodes.proofs.NarrowLemmas.{narrow_toggles}
 use Rattle.bennett_pebbling.specs.inside.Changes.{AllowsTurn, IsTurned, IsTurnFault}
 use Rattle.bennett_pebbling.specs.inside.Costs.{IsMove, counted, price_if}

@@ -5,7 +5,7 @@ use Rattle.claim_check.specs.Budgets.{Measures, block_lines, block_gates, fine_l
 use Rattle.circuit_plans.specs.declared.plan.PlanFault.{PlanFault}
 use Rattle.circuit_plans.specs.declared.plan.PlanFault.TheVariants.{Lines, Gates, Memory}
 use Rattle.circuit_plans.specs.Plans.{BudgetView}
-use Rattle.held_nodes.specs.Plans.{HasPortLines, wanted_lines}
+use Rattle.circuit_plans.specs.Plans.{HasPortLines, wanted_lines}
 
 -- What of a graph is counted: the measures within which it is, its inputs and outputs, its nodes,
 -- and the gates of a plan with one block of all nodes.

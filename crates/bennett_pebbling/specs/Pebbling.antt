@@ -12,7 +12,7 @@ use Rattle.circuit_plans.specs.declared.plan.PlanFault.{PlanFault}
 use Rattle.circuit_plans.specs.declared.plan.PlanFault.TheVariants.{Lines, Gates, Memory}
 use Rattle.circuit_plans.specs.Plans.{BudgetView, PlannedView}
 use Rattle.mct_circuit.specs.Sizes.{counts_of}
-use Rattle.held_nodes.specs.Held.{first_work}
+use Rattle.sum_graph.specs.Graphs.{first_work}
 use Rattle.bennett_pebbling.specs.Blocks.{Extent, AreWithinBlock, IsBlockFault}
 
 -- an output is a base or a constant

@@ -1,9 +1,10 @@
 // The pebbling plan of a graph.
-ghost use Rattle.std.specs.Prelude.{IfOk, IfErr, ◌≤◌};
+ghost use Rattle.std.specs.Prelude.{IfOk, IfErr, length, ◌≤◌};
 ghost use Rattle.bennett_pebbling.specs.Pebbling.{HasFewProducts, HasLineEach, IsPebblingFault};
 ghost use Rattle.bennett_pebbling.specs.Pebbling.{IsWithinBlock};
 ghost use Rattle.circuit_plans.specs.declared.roles.Start.TheVariants.{Any};
-ghost use Rattle.held_nodes.specs.Plans.{IsNarrowPlan};
+ghost use Rattle.circuit_plans.specs.Plans.{IsNarrowPlan};
+ghost use Rattle.sum_graph.specs.Graphs.{sum_outputs};
 
 use crate::changing::{Halving, rise};
 use crate::needs::outputs_of;
@@ -33,7 +34,8 @@ pub fn plan(
     budget: &Budget,
 ) -> Result<Planned, PlanFault>
     requires { 1 ≤ block }
-    ensures plan { IfOk result (IsNarrowPlan Any graph.now budget.now) }
+    ensures plan { IfOk result (IsNarrowPlan Any graph.now.inputs (length graph.now.outputs)
+        (sum_outputs graph.now) budget.now) }
     ensures few { IfOk result (IsWithinBlock graph.now block) }
     ensures lines { IfOk result (HasLineEach graph.now) }
     ensures products { IfOk result (HasFewProducts graph.now block) }

@@ -17,9 +17,10 @@ use Rattle.dependency_graph.specs.Graphs.{IsKnownBase, operands}
 use Rattle.circuit_plans.specs.declared.plan.PlanFault.{PlanFault}
 use Rattle.circuit_plans.specs.declared.plan.PlanFault.TheVariants.{Lines, Gates, Memory}
 use Rattle.circuit_plans.specs.Plans.{BudgetView}
-use Rattle.held_nodes.specs.Held.{ForwardView, first_work, held_count, is_held}
+use Rattle.held_nodes.specs.Held.{ForwardView, held_count, is_held}
+use Rattle.sum_graph.specs.Graphs.{first_work}
 use Rattle.held_nodes.specs.Moves.{IsReadyBase, IsReadyNode, IsStartFault, IsToggleFault}
-use Rattle.held_nodes.specs.Plans.{HasPortLines, wanted_lines}
+use Rattle.circuit_plans.specs.Plans.{HasPortLines, wanted_lines}
 use Rattle.list_facts.specs.Lists.{IsAmong}
 use Rattle.list_facts.proofs.AmongLemmas.{all_among, all_from_among}
 use Rattle.revs_tape.specs.Monomials.{AreMonomialsOf}

@@ -16,7 +16,8 @@ use Rattle.exclusive_sums.specs.Inputs.{StandsIn}
 use Rattle.circuit_plans.specs.declared.plan.PlanFault.{PlanFault}
 use Rattle.circuit_plans.specs.declared.plan.PlanFault.TheVariants.{Lines, Gates, Memory}
 use Rattle.gate_split.specs.Costs.{most_gates}
-use Rattle.held_nodes.specs.Held.{ForwardView, IsForward, first_work, held_count, held_line, is_held}
+use Rattle.held_nodes.specs.Held.{ForwardView, IsForward, held_count, held_line, is_held}
+use Rattle.sum_graph.specs.Graphs.{first_work}
 use Rattle.held_nodes.specs.Moves.{CanClear, IsCleared, IsClearFault, IsToggled, IsToggleFault, TakesLine, cube_flips, toggle_of, with_node}
 use Rattle.held_nodes.proofs.LineLemmas.{count-given, held_within}
 use Rattle.held_nodes.proofs.PlaceLemmas.{held_own}

@@ -22,7 +22,8 @@ use Rattle.exclusive_sums.specs.Cubes.{IsCube, input_of}
 use Rattle.gate_split.specs.Costs.{IsRoomyFlip, most_gates}
 use Rattle.gate_split.proofs.RoomyFlipLemmas.{roomy_flips}
 use Rattle.held_nodes.specs.Held.{ForwardView, IsForward}
-use Rattle.held_nodes.specs.Moves.{control_of, copies_from, cube_flip, cube_flips, toggle_of, weight_in}
+use Rattle.held_nodes.specs.Moves.{control_of, copies_from, cube_flip, cube_flips, toggle_of}
+use Rattle.mct_circuit.specs.Sizes.{weight_in}
 use Rattle.list_facts.specs.Lists.{IsRising}
 use Rattle.list_facts.proofs.AllLemmas.{AllByRecursion-weaker}
 use Rattle.mct_circuit.specs.declared.gate.Control.{Control}

@@ -17,7 +17,8 @@ use Rattle.dependency_graph.specs.Graphs.{IsKnownSig}
 use Rattle.circuit_plans.specs.declared.plan.PlanFault.{PlanFault}
 use Rattle.circuit_plans.specs.declared.plan.PlanFault.TheVariants.{Lines, Gates, Memory}
 use Rattle.circuit_plans.specs.Plans.{BudgetView, PlannedView}
-use Rattle.held_nodes.specs.Held.{ForwardView, IsForward, first_work, held_line, is_held}
+use Rattle.held_nodes.specs.Held.{ForwardView, IsForward, held_line, is_held}
+use Rattle.sum_graph.specs.Graphs.{first_work}
 use Rattle.held_nodes.specs.Moves.{IsFinishFault, IsReadySum, copies_from, copies_of, nothing_held, planned_of}
 use Rattle.list_facts.specs.Lists.{IsAmong}
 use Rattle.eager_cleanup.specs.Eager.{IsEagerFault, IsWithinEager}

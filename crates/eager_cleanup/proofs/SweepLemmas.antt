@@ -15,7 +15,8 @@ use Rattle.dependency_graph.proofs.TableLemmas.{length-steps_of}
 use Rattle.dependency_graph.proofs.UseLemmas.{last_uses_tell_cuts}
 use Rattle.gate_split.specs.Costs.{most_gates}
 use Rattle.circuit_plans.specs.Plans.{BudgetView}
-use Rattle.held_nodes.specs.Held.{ForwardView, IsForward, first_work, held_count, held_line, is_held}
+use Rattle.held_nodes.specs.Held.{ForwardView, IsForward, held_count, held_line, is_held}
+use Rattle.sum_graph.specs.Graphs.{first_work}
 use Rattle.held_nodes.specs.Moves.{IsToggled, TakesLine, toggle_of, with_node}
 use Rattle.held_nodes.proofs.LineLemmas.{count-put}
 use Rattle.held_nodes.proofs.PlaceLemmas.{ready_bases, unheld_none}

@@ -7,7 +7,7 @@ use Rattle.circuit_plans.specs.declared.plan.PlanFault.{PlanFault}
 use Rattle.circuit_plans.specs.declared.plan.PlanFault.TheVariants.{Lines, Gates, Memory}
 use Rattle.gate_split.specs.Costs.{most_gates}
 use Rattle.circuit_plans.specs.Plans.{BudgetView, PlannedView}
-use Rattle.held_nodes.specs.Plans.{HasPortLines, wanted_lines}
+use Rattle.circuit_plans.specs.Plans.{HasPortLines, wanted_lines}
 
 -- how many inputs and outputs it has
 abbrev pub ports_of : SettledView → ℕ

@@ -7,9 +7,9 @@ ghost use Rattle.eager_cleanup.specs.inside.Sweeps.{IsSwept};
 ghost use Rattle.gate_split.specs.Costs.{IsRoomyFlip};
 ghost use Rattle.circuit_plans.specs.Plans.{AddsOutputs};
 ghost use Rattle.circuit_plans.specs.declared.roles.Start.TheVariants.{Any};
-ghost use Rattle.held_nodes.specs.Moves.{roles_of_plan};
+ghost use Rattle.circuit_plans.specs.Plans.{roles_of_plan};
 ghost use Rattle.sum_graph.specs.Plain.{plain_of};
-ghost use Rattle.held_nodes.specs.Plans.{HasPorts, IsInBudget};
+ghost use Rattle.circuit_plans.specs.Plans.{HasPorts, IsInBudget};
 
 use crate::cleaning::{Cleaning, clean_operands};
 use crate::known::{add_value, input_values};
@@ -39,7 +39,7 @@ pub fn plan(
     budget: &Budget,
 ) -> Result<Planned, PlanFault>
     requires { plain.now ≡ plain_of graph.now }
-    ensures ports { IfOk result (HasPorts (plain_of graph.now)) }
+    ensures ports { IfOk result (HasPorts graph.now.inputs (length graph.now.outputs)) }
     ensures clean { IfOk result (λ planned. AddsOutputs Any (roles_of_plan planned)
         planned.circuit.gates (settled_outputs graph.now)) }
     ensures within { IfOk result (IsInBudget budget.now) }

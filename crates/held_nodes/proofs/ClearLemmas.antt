@@ -7,7 +7,7 @@ use Rattle.std.specs.List.{AllByRecursion}
 use Rattle.std.proofs.lemmas.List.Sums.{sum_by-append}
 use Rattle.list_facts.specs.Bits.{bit_of}
 use Rattle.list_facts.proofs.AllLemmas.{AllByRecursion-weaker}
-use Rattle.ancilla_heap.specs.Lines.{HeapView}
+use Rattle.held_nodes.specs.inside.Lines.{HeapView}
 use Rattle.sum_graph.specs.Graphs.{SumGraphView, node_value}
 use Rattle.exclusive_sums.specs.declared.cube.Literal.{Literal}
 use Rattle.exclusive_sums.specs.Cubes.{IsCube, input_of, value_of_cubes}
@@ -17,10 +17,12 @@ use Rattle.circuit_plans.specs.declared.plan.PlanFault.{PlanFault}
 use Rattle.circuit_plans.specs.declared.plan.PlanFault.TheVariants.{Lines, Gates, Memory}
 use Rattle.mct_circuit.specs.Gates.{GateView, lines_of}
 use Rattle.mct_circuit.specs.Sizes.{weight_of}
-use Rattle.held_nodes.specs.Held.{ForwardView, first_work, is_held}
+use Rattle.held_nodes.specs.Held.{ForwardView, is_held}
+use Rattle.sum_graph.specs.Graphs.{first_work}
 use Rattle.held_nodes.proofs.LineLemmas.{held_within}
 use Rattle.held_nodes.proofs.PlaceLemmas.{held_own}
-use Rattle.held_nodes.specs.Moves.{CanClear, IsClearFault, cube_flip, cube_flips, weight_in}
+use Rattle.held_nodes.specs.Moves.{CanClear, IsClearFault, cube_flip, cube_flips}
+use Rattle.mct_circuit.specs.Sizes.{weight_in}
 use Rattle.held_nodes.specs.inside.Kept.{AreTooHeavy}
 use Rattle.held_nodes.proofs.ContentLemmas.{all_lines, length-all_lines, input_bit, work_bit, set_work}
 use Rattle.held_nodes.proofs.CubeLemmas.{control_lines, different_lines}

@@ -12,7 +12,8 @@ use Rattle.sum_graph.specs.Graphs.{SumGraphView, node_value}
 use Rattle.mct_circuit.specs.Gates.{GateView, AreGatesOn, line_map}
 use Rattle.mct_circuit.proofs.MoreLinesLemmas.{more_lines}
 use Rattle.mct_circuit.proofs.ReversalLemmas.{line_map-append}
-use Rattle.held_nodes.specs.Held.{IsContent, first_work, held_line, is_taken}
+use Rattle.held_nodes.specs.Held.{IsContent, held_line, is_taken}
+use Rattle.sum_graph.specs.Graphs.{first_work}
 use Rattle.held_nodes.proofs.LineLemmas.{AreOnDifferent, not_free, taken-put, taken-given, none_set}
 
 -- ---- the lines of inputs, outputs and work

@@ -18,8 +18,10 @@ use Rattle.mct_circuit.proofs.ReversalLemmas.{line_map-append}
 use Rattle.sum_graph.specs.Graphs.{IsKnownSum, SumGraphView, sum_on, sum_outputs}
 use Rattle.sum_toggles.specs.Toggles.{AreApart, base_line, sum_gates, toggle_weight}
 use Rattle.sum_toggles.proofs.SumLemmas.{weight_sum}
-use Rattle.held_nodes.specs.Held.{IsContent, first_work, held_line}
-use Rattle.held_nodes.specs.Moves.{IsReadySum, copies_from, weight_in}
+use Rattle.held_nodes.specs.Held.{IsContent, held_line}
+use Rattle.sum_graph.specs.Graphs.{first_work}
+use Rattle.held_nodes.specs.Moves.{IsReadySum, copies_from}
+use Rattle.mct_circuit.specs.Sizes.{weight_in}
 use Rattle.held_nodes.specs.inside.Kept.{CanCopy, HasProducts}
 use Rattle.held_nodes.proofs.ContentLemmas.{all_lines}
 use Rattle.held_nodes.proofs.LineLemmas.{AreOnDifferent}

@@ -5,7 +5,8 @@ use Rattle.bit_sums.specs.Sums.{SumView}
 use Rattle.sum_graph.specs.Graphs.{products_in}
 use Rattle.sum_toggles.specs.Toggles.{base_line, sum_gates}
 use Rattle.sum_toggles.proofs.CountLemmas.{ccx_in, ccx_sum, ccx-append, ccx-reverse}
-use Rattle.held_nodes.specs.Held.{ForwardView, first_work}
+use Rattle.held_nodes.specs.Held.{ForwardView}
+use Rattle.sum_graph.specs.Graphs.{first_work}
 use Rattle.held_nodes.specs.Moves.{IsToggled, copies_from, copies_of, finished_gates, toggle_of}
 
 pub ccx_toggled : (f next : ForwardView) (k : ℕ) (t : IsToggled f k next) → ccx_in next.gates ≡ ccx_in f.gates + length t.node.products

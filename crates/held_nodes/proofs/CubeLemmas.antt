@@ -10,7 +10,8 @@ use Rattle.circuit_plans.specs.declared.plan.PlanFault.{PlanFault}
 use Rattle.circuit_plans.specs.declared.plan.PlanFault.TheVariants.{Lines, Gates, Memory}
 use Rattle.mct_circuit.specs.declared.gate.Control.{Control}
 use Rattle.mct_circuit.specs.Gates.{GateView, HasDifferentLines}
-use Rattle.held_nodes.specs.Moves.{control_of, cube_flip, weight_in}
+use Rattle.held_nodes.specs.Moves.{control_of, cube_flip}
+use Rattle.mct_circuit.specs.Sizes.{weight_in}
 use Rattle.held_nodes.specs.inside.Kept.{AreTooHeavy}
 
 -- ---- the lines of a flip

@@ -5,7 +5,8 @@ use Rattle.std.proofs.lemmas.Option.{none-some}
 use Rattle.sum_graph.specs.Graphs.{SumGraphView, IsSumGraph}
 use Rattle.circuit_plans.specs.Plans.{BudgetView}
 use Rattle.circuit_plans.specs.declared.plan.TheConstants.{MOST_LINES}
-use Rattle.held_nodes.specs.Held.{HoldsNodes, first_work, held_line, held_count, is_taken}
+use Rattle.held_nodes.specs.Held.{HoldsNodes, held_line, held_count, is_taken}
+use Rattle.sum_graph.specs.Graphs.{first_work}
 use Rattle.held_nodes.specs.inside.Kept.{IsKept}
 
 -- no line is held

@@ -9,7 +9,7 @@ use Rattle.std.proofs.lemmas.Simd.{length-zip2}
 use Rattle.std.specs.Bool.{xor}
 use Rattle.list_facts.specs.Bits.{zeros}
 use Rattle.list_facts.proofs.AllLemmas.{AllByRecursion-append, AllByRecursion-reverse}
-use Rattle.ancilla_heap.specs.Lines.{HeapView}
+use Rattle.held_nodes.specs.inside.Lines.{HeapView}
 use Rattle.sum_graph.specs.Graphs.{sum_outputs, sum_on}
 use Rattle.gate_split.specs.Costs.{IsRoomyFlip}
 use Rattle.circuit_plans.specs.declared.plan.PlanFault.{PlanFault}
@@ -22,9 +22,12 @@ use Rattle.mct_circuit.specs.Sizes.{weight_of}
 use Rattle.mct_circuit.proofs.ReversalLemmas.{conjugated}
 use Rattle.mct_circuit.proofs.WeightLemmas.{length-le-weight, weight-reverse}
 use Rattle.sum_toggles.specs.Toggles.{toggle_weight}
-use Rattle.held_nodes.specs.Held.{ForwardView, first_work}
-use Rattle.held_nodes.specs.Moves.{IsFinishFault, IsReadySum, copies_of, finished_gates, finished_weight, planned_of, roles_of_plan, weight_in}
-use Rattle.held_nodes.specs.Plans.{HasPorts, IsInBudget}
+use Rattle.held_nodes.specs.Held.{ForwardView}
+use Rattle.sum_graph.specs.Graphs.{first_work}
+use Rattle.held_nodes.specs.Moves.{IsFinishFault, IsReadySum, copies_of, finished_gates, finished_weight, planned_of}
+use Rattle.circuit_plans.specs.Plans.{roles_of_plan}
+use Rattle.mct_circuit.specs.Sizes.{weight_in}
+use Rattle.circuit_plans.specs.Plans.{HasPorts, IsInBudget}
 use Rattle.held_nodes.specs.inside.Kept.{CanCopy, HasProducts, IsKept}
 use Rattle.held_nodes.proofs.ContentLemmas.{all_lines, length-all_lines}
 use Rattle.held_nodes.proofs.CopyLemmas.{AreReady, outputs_can, copies_roomy, weight-copies, copied}
@@ -67,7 +70,7 @@ module _ (f : ForwardView) (w : ℕ) (heap : HeapView) (d : IsDone f w heap) whe
       → finished_weight f ≤ f.budget.gates
   done_within gates weight e is le = let twice = d.kept.forward.weight in omega (arith, e, is, le, twice)
 
-  pub done_ports : HasPorts f.graph (planned_of f)
+  pub done_ports : HasPorts f.graph.inputs (length f.graph.outputs) (planned_of f)
   done_ports = record { inputs = refl; outputs = refl; lines = refl }
 
   pub done_few : first_work f.graph + f.most ≤ MOST_LINES

@@ -11,8 +11,9 @@ use Rattle.sum_graph.specs.Graphs.{SumGraphView, node_value}
 use Rattle.gate_split.specs.Costs.{IsRoomyFlip}
 use Rattle.gate_split.proofs.RoomyFlipLemmas.{more_room}
 use Rattle.mct_circuit.specs.Gates.{GateView, IsGateOn, AreGatesOn}
-use Rattle.held_nodes.specs.Held.{ForwardView, IsForward, HoldsNodes, IsContent, first_work, held_line, held_count, is_taken}
-use Rattle.held_nodes.specs.Moves.{weight_in}
+use Rattle.held_nodes.specs.Held.{ForwardView, IsForward, HoldsNodes, IsContent, held_line, held_count, is_taken}
+use Rattle.sum_graph.specs.Graphs.{first_work}
+use Rattle.mct_circuit.specs.Sizes.{weight_in}
 use Rattle.held_nodes.proofs.ContentLemmas.{AddsValue, content_padded, content_put, content_given}
 use Rattle.held_nodes.proofs.LineLemmas.{AreOnDifferent, none_set, not_free, count-given}
 

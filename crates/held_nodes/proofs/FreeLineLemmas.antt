@@ -10,14 +10,14 @@ use Rattle.std.proofs.lemmas.Bool.{cases_Bool, cases_lt, eqb-true, eqb-false, eq
 use Rattle.std.proofs.lemmas.Bool.Decides.{nat_tests}
 use Rattle.std.proofs.lemmas.List.Sums.{sum_by-cons}
 use Rattle.std.proofs.lemmas.List.Sorted.{sum_by-IsPermutation}
-use Rattle.ancilla_heap.specs.Lines.{HeapView, contains, IsLineHeap, IsLeastFree, with_line, without_line, with_taken}
-use Rattle.ancilla_heap.specs.inside.Heaps.{count_of, is_out, out_of, AreLines}
+use Rattle.held_nodes.specs.inside.Lines.{HeapView, contains, IsLineHeap, IsLeastFree, with_line, without_line, with_taken}
+use Rattle.held_nodes.specs.inside.Heaps.{count_of, is_out, out_of, AreLines}
 use Rattle.std.proofs.lemmas.List.FromFn.{length-range_with_len}
 use Rattle.std.proofs.Math.Bool.{and-true}
 use Rattle.list_facts.proofs.AllLemmas.{AllByRecursion-weaker}
 use Rattle.list_facts.proofs.OrderLemmas.{IsRising-filter, IsRising-range, range_below}
-use Rattle.ancilla_heap.proofs.OutLineLemmas.{passed_each, filter_none, contains-range, contains-filter_failed, contains-filter_passed, length-filter_all}
-use Rattle.ancilla_heap.proofs.OutLineLemmas.{length-filter-lt, filter_with, filter_without}
+use Rattle.held_nodes.proofs.OutLineLemmas.{passed_each, filter_none, contains-range, contains-filter_failed, contains-filter_passed, length-filter_all}
+use Rattle.held_nodes.proofs.OutLineLemmas.{length-filter-lt, filter_with, filter_without}
 
 -- ---- how often a line is free
 

@@ -6,9 +6,12 @@ pub mod CubeLemmas
 pub mod EmptyLemmas
 pub mod FinishLemmas
 pub mod ForwardLemmas
+pub mod FreeLineLemmas
 pub mod LineLemmas
 pub mod NarrowLemmas
 pub mod PlaceLemmas
+pub mod OutLineLemmas
+pub mod PeakLemmas
 pub mod PriceLemmas
 pub mod SetLemmas
 pub mod StepLemmas

@@ -8,9 +8,9 @@ use Rattle.std.proofs.lemmas.List.Sums.{sum_by-set}
 use Rattle.std.proofs.lemmas.Option.{none-some, same_Some}
 use Rattle.list_facts.specs.Lists.{IsRising}
 use Rattle.list_facts.proofs.AllLemmas.{AllByRecursion-weaker}
-use Rattle.ancilla_heap.specs.Lines as heaps
-use Rattle.ancilla_heap.specs.Lines.{HeapView, IsLineHeap, contains, with_line, without_line, with_taken}
-use Rattle.ancilla_heap.proofs.OutLineLemmas.{length-with_line, length-filter_all, contains-with_line, contains-without_line}
+use Rattle.held_nodes.specs.inside.Lines as heaps
+use Rattle.held_nodes.specs.inside.Lines.{HeapView, IsLineHeap, contains, with_line, without_line, with_taken}
+use Rattle.held_nodes.proofs.OutLineLemmas.{length-with_line, length-filter_all, contains-with_line, contains-without_line}
 use Rattle.held_nodes.specs.Held.{IsLeastFree, held_line, held_count, is_line, is_taken}
 use Rattle.held_nodes.specs.inside.Kept.{AreOut}
 

@@ -1,5 +1,5 @@
 -- Toggles and copies are flips of at most two controls, all positive.
-use Rattle.std.proofs.Common.{◌≡◌, ℕ, ◌+◌, List, [], ◌∷◌, ◌++◌, reverse, Option, Ok, Err, subst, sym}
+use Rattle.std.proofs.Common.{◌≡◌, ℕ, ◌+◌, List, [], ◌∷◌, ◌++◌, reverse, Option, Ok, Err, subst, sym, length}
 use Rattle.std.specs.Prelude.{IfOk, Result}
 use Rattle.list_facts.proofs.AllLemmas.{AllByRecursion-append, AllByRecursion-reverse}
 use Rattle.bit_sums.specs.Sums.{SumView}
@@ -10,9 +10,12 @@ use Rattle.mct_circuit.specs.Gates.{AreNarrow, IsNarrow}
 use Rattle.sum_graph.specs.Graphs.{SumGraphView, sum_outputs}
 use Rattle.sum_toggles.specs.Toggles.{base_line, sum_gates}
 use Rattle.sum_toggles.proofs.SumLemmas.{narrow_sum}
-use Rattle.held_nodes.specs.Held.{ForwardView, first_work}
-use Rattle.held_nodes.specs.Moves.{IsToggled, copies_from, copies_of, finished_gates, planned_of, roles_of_plan, toggle_of}
-use Rattle.held_nodes.specs.Plans.{HasPorts, IsInBudget, IsNarrowPlan, TogglesAreNarrow}
+use Rattle.held_nodes.specs.Held.{ForwardView}
+use Rattle.sum_graph.specs.Graphs.{first_work}
+use Rattle.held_nodes.specs.Moves.{IsToggled, copies_from, copies_of, finished_gates, planned_of, toggle_of}
+use Rattle.circuit_plans.specs.Plans.{roles_of_plan}
+use Rattle.held_nodes.specs.Plans.{TogglesAreNarrow}
+use Rattle.circuit_plans.specs.Plans.{HasPorts, IsInBudget, IsNarrowPlan}
 
 all_copies : (first : ℕ) (lines : List (Option ℕ)) (target : ℕ) (sums : List SumView) → AreNarrow (copies_from first lines target sums)
 all_copies first lines target [] = tt
@@ -37,8 +40,8 @@ narrow_toggles = record { toggled = toggled; finished = finished }
 
 -- the plan of a finished forward part of narrow gates
 pub narrow_plan : (s : SumGraphView) (b : BudgetView) (f : ForwardView) (made : Result PlannedView PlanFault) → IfOk made (λ p. p ≡ planned_of f)
-    → AreNarrow (finished_gates f) → IfOk made (HasPorts s) → IfOk made (λ p. AddsOutputs Any (roles_of_plan p) p.circuit.gates (sum_outputs s))
-    → IfOk made (IsInBudget b) → IfOk made (IsNarrowPlan Any s b)
+    → AreNarrow (finished_gates f) → IfOk made (HasPorts s.inputs (length s.outputs)) → IfOk made (λ p. AddsOutputs Any (roles_of_plan p) p.circuit.gates (sum_outputs s))
+    → IfOk made (IsInBudget b) → IfOk made (IsNarrowPlan Any s.inputs (length s.outputs) (sum_outputs s) b)
 narrow_plan s b f (Ok p) is narrow ports clean within = record {
   ports = ports;
   clean = clean;

@@ -5,7 +5,7 @@ use Rattle.std.specs.List.{AllByRecursion, filter, range_with_len}
 use Rattle.std.proofs.lemmas.Bool.{cases_Bool, eqb-true, eqb-false, ne_eqb, lt-ltb, le-ltb, cases_lt, true≢false}
 use Rattle.list_facts.specs.Lists.{IsRising}
 use Rattle.list_facts.proofs.AllLemmas.{AllByRecursion-weaker, AllByRecursion-filter}
-use Rattle.ancilla_heap.specs.Lines.{contains, with_line, without_line}
+use Rattle.held_nodes.specs.inside.Lines.{contains, with_line, without_line}
 
 pub passed_each : (p : ℕ → Bool) (xs : List ℕ) → AllByRecursion (λ x. p x ≡ true) (filter p xs)
 passed_each p [] = tt

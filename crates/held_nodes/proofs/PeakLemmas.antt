@@ -4,8 +4,8 @@ use Rattle.std.specs.List.{AllByRecursion}
 use Rattle.std.proofs.lemmas.Bool.{cases_Bool, eqb-true, eqb-false, ne_eqb, true≢false}
 use Rattle.list_facts.specs.Lists.{IsRising}
 use Rattle.list_facts.proofs.AllLemmas.{AllByRecursion-weaker, AllByRecursion-always}
-use Rattle.ancilla_heap.specs.Lines.{HeapView, IsLineHeap, IsLeastFree, contains, with_taken}
-use Rattle.ancilla_heap.proofs.OutLineLemmas.{contains_above, length-with_line}
+use Rattle.held_nodes.specs.inside.Lines.{HeapView, IsLineHeap, IsLeastFree, contains, with_taken}
+use Rattle.held_nodes.proofs.OutLineLemmas.{contains_above, length-with_line}
 
 -- rising numbers from one bound up to another are at most as many as lie between
 few_between : (low high : ℕ) (xs : List ℕ) → IsRising xs → AllByRecursion (λ x. low ≤ x) xs → AllByRecursion (λ x. x < high) xs → length xs + low ≤ max low high

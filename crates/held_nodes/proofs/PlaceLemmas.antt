@@ -21,7 +21,8 @@ use Rattle.sum_graph.proofs.SumNodeLemmas.{value_of_sum}
 use Rattle.sum_toggles.specs.Toggles.{AreApart, HaveLines, IsPlacedBase, base_line, sum_gates}
 use Rattle.sum_toggles.proofs.AddingLemmas.{on_lines}
 use Rattle.sum_toggles.proofs.SumLemmas.{narrow_sum, sum_adds, sums_on}
-use Rattle.held_nodes.specs.Held.{IsContent, first_work, held_line, is_held, is_ready}
+use Rattle.held_nodes.specs.Held.{IsContent, held_line, is_held, is_ready}
+use Rattle.sum_graph.specs.Graphs.{first_work}
 use Rattle.held_nodes.specs.Moves.{IsReadyBase, toggle_of}
 use Rattle.held_nodes.specs.inside.Kept.{HasProducts}
 use Rattle.held_nodes.proofs.ContentLemmas.{AddsValue, all_lines, length-all_lines, input_bit, work_bit, set_work}

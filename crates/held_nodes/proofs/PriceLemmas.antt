@@ -8,8 +8,10 @@ use Rattle.sum_graph.specs.Graphs.{SumGraphView}
 use Rattle.sum_toggles.specs.Toggles.{toggle_weight}
 use Rattle.sum_toggles.proofs.CountLemmas.{ccx_of}
 use Rattle.mct_circuit.specs.Sizes.{weight_of}
-use Rattle.held_nodes.specs.Held.{ForwardView, first_work}
-use Rattle.held_nodes.specs.Moves.{IsToggled, toggle_of, weight_in}
+use Rattle.held_nodes.specs.Held.{ForwardView}
+use Rattle.sum_graph.specs.Graphs.{first_work}
+use Rattle.held_nodes.specs.Moves.{IsToggled, toggle_of}
+use Rattle.mct_circuit.specs.Sizes.{weight_in}
 use Rattle.held_nodes.proofs.CountLemmas.{ccx_toggled}
 use Rattle.held_nodes.specs.Prices.{IsPrice, price_at, price_of, prices}
 

@@ -5,9 +5,9 @@ use Rattle.std.specs.List.{AllByRecursion}
 use Rattle.std.proofs.lemmas.Bool.{false≢true}
 use Rattle.std.proofs.lemmas.List.{get_or_default}
 use Rattle.std.proofs.lemmas.Option.{same_Some, slice_get_within}
-use Rattle.ancilla_heap.proofs.OutLineLemmas.{length-with_line}
-use Rattle.ancilla_heap.specs.Lines as heaps
-use Rattle.ancilla_heap.specs.Lines.{HeapView, IsLineHeap, contains, with_taken, without_line}
+use Rattle.held_nodes.proofs.OutLineLemmas.{length-with_line}
+use Rattle.held_nodes.specs.inside.Lines as heaps
+use Rattle.held_nodes.specs.inside.Lines.{HeapView, IsLineHeap, contains, with_taken, without_line}
 use Rattle.sum_graph.specs.Graphs.{SumGraphView}
 use Rattle.bit_sums.specs.Sums.{SumView, bases_of}
 use Rattle.circuit_plans.specs.declared.plan.PlanFault.{PlanFault}
@@ -15,8 +15,10 @@ use Rattle.circuit_plans.specs.declared.plan.PlanFault.TheVariants.{Lines, Gates
 use Rattle.circuit_plans.specs.declared.plan.TheConstants.{MOST_LINES}
 use Rattle.gate_split.specs.Costs.{IsRoomyFlip}
 use Rattle.mct_circuit.specs.Gates.{GateView}
-use Rattle.held_nodes.specs.Held.{ForwardView, IsForward, IsLeastFree, first_work, held_line, held_count}
-use Rattle.held_nodes.specs.Moves.{IsReadyBase, IsReadyNode, IsToggled, IsToggleFault, IsToggleTooHeavy, HasNoLine, toggle_of, weight_in}
+use Rattle.held_nodes.specs.Held.{ForwardView, IsForward, IsLeastFree, held_line, held_count}
+use Rattle.sum_graph.specs.Graphs.{first_work}
+use Rattle.held_nodes.specs.Moves.{IsReadyBase, IsReadyNode, IsToggled, IsToggleFault, IsToggleTooHeavy, HasNoLine, toggle_of}
+use Rattle.mct_circuit.specs.Sizes.{weight_in}
 use Rattle.sum_toggles.specs.Toggles.{base_line, toggle_weight}
 use Rattle.sum_toggles.proofs.SumLemmas.{weight_sum}
 use Rattle.held_nodes.specs.Moves.{with_node}

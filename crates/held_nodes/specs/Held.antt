@@ -6,7 +6,7 @@ use Rattle.std.specs.List.{AllByRecursion, list_any}
 use Rattle.list_facts.specs.Bits.{bit_of, zeros}
 use Rattle.dependency_graph.specs.declared.node.Base.{Base}
 use Rattle.dependency_graph.specs.declared.node.Base.TheVariants as bases
-use Rattle.sum_graph.specs.Graphs.{SumGraphView, IsSumGraph, node_value}
+use Rattle.sum_graph.specs.Graphs.{SumGraphView, IsSumGraph, first_work, node_value}
 use Rattle.gate_split.specs.Costs.{IsRoomyFlip}
 use Rattle.circuit_plans.specs.Plans.{BudgetView}
 use Rattle.mct_circuit.specs.Gates.{GateView, line_map}
@@ -22,10 +22,6 @@ pub record ForwardView : Type 0 where
   pub most : ℕ
 
 -- ---- lines
-
--- the circuit's first work line: the input lines and the output lines come before it
-abbrev pub first_work : SumGraphView → ℕ
-first_work s = s.inputs + length s.outputs
 
 -- how many work lines the budget has
 abbrev pub work_lines : SumGraphView → BudgetView → ℕ

@@ -10,15 +10,15 @@ use Rattle.exclusive_sums.specs.declared.cube.Literal.{Literal}
 use Rattle.exclusive_sums.specs.Cubes.{value_of_cubes}
 use Rattle.circuit_plans.specs.declared.plan.PlanFault.{PlanFault}
 use Rattle.circuit_plans.specs.declared.plan.PlanFault.TheVariants.{Lines, Gates, Memory}
-use Rattle.circuit_plans.specs.declared.roles.Roles.{Roles}
 use Rattle.circuit_plans.specs.Plans.{BudgetView, PlannedView}
 use Rattle.mct_circuit.specs.declared.gate.Control.{Control}
 use Rattle.mct_circuit.specs.declared.gate.Op.TheVariants.{Flip}
 use Rattle.mct_circuit.specs.Gates.{GateView}
-use Rattle.mct_circuit.specs.Sizes.{weight_of}
+use Rattle.mct_circuit.specs.Sizes.{weight_in}
 use Rattle.sum_graph.specs.Graphs.{SumGraphView, node_value}
 use Rattle.sum_toggles.specs.Toggles.{base_line, sum_gates, toggle_weight}
-use Rattle.held_nodes.specs.Held.{ForwardView, IsLeastFree, first_work, work_lines, held_line, is_held, held_count}
+use Rattle.held_nodes.specs.Held.{ForwardView, IsLeastFree, work_lines, held_line, is_held, held_count}
+use Rattle.sum_graph.specs.Graphs.{first_work}
 
 -- ---- the gates; `first` is the first work line
 
@@ -45,10 +45,6 @@ copies_from first lines target (s ∷ rest) =
 
 abbrev pub copies_of : ForwardView → List GateView
 copies_of f = copies_from (first_work f.graph) f.lines f.graph.inputs f.graph.outputs
-
--- the weight of gates together
-abbrev pub weight_in : List GateView → ℕ
-weight_in gates = sum_by weight_of gates
 
 -- the forward part with more gates, and with a node held on a line or not
 abbrev pub with_node : ForwardView → ℕ → Option ℕ → List GateView → ForwardView
@@ -168,11 +164,6 @@ planned_of f =
       outputs = length f.graph.outputs;
       work = f.most;
     }
-
--- the roles of a plan's lines, of which none is borrowed
-abbrev pub roles_of_plan : PlannedView → Roles
-roles_of_plan p =
-    record { inputs = p.inputs; outputs = p.outputs; work = p.work; borrowed = 0 }
 
 -- twice the weight of the gates and once that of the copies
 abbrev pub finished_weight : ForwardView → ℕ

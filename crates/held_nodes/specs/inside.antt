@@ -1,2 +1,4 @@
 -- What only private contracts and proofs cite.
+pub mod Heaps
 pub mod Kept
+pub mod Lines

@@ -4,7 +4,8 @@ ghost use Rattle.std.specs.List.{AllByRecursion};
 ghost use Rattle.exclusive_sums.specs.declared.cube.Literal.{Literal};
 ghost use Rattle.exclusive_sums.specs.Cubes.{IsCube};
 ghost use Rattle.circuit_plans.specs.declared.plan.TheConstants.{MOST_LINES};
-ghost use Rattle.held_nodes.specs.Moves.{control_of, cube_flip, cube_flips, weight_in};
+ghost use Rattle.held_nodes.specs.Moves.{control_of, cube_flip, cube_flips};
+ghost use Rattle.mct_circuit.specs.Sizes.{weight_in};
 ghost use Rattle.held_nodes.specs.inside.Kept.{AreTooHeavy};
 
 use crate::weighed::WeighedGates;

@@ -6,7 +6,7 @@ ghost use Rattle.sum_graph.specs.Graphs.{IsSumGraph};
 ghost use Rattle.circuit_plans.specs.declared.plan.TheConstants.{MOST_LINES};
 ghost use Rattle.mct_circuit.specs.Gates.{AreGatesOn};
 ghost use Rattle.sum_toggles.specs.Toggles.{toggle_weight};
-ghost use Rattle.held_nodes.specs.Held.{first_work};
+ghost use Rattle.sum_graph.specs.Graphs.{first_work};
 ghost use Rattle.held_nodes.specs.Moves.{copies_from};
 ghost use Rattle.held_nodes.specs.inside.Kept.{CanCopy, HasProducts};
 
@@ -87,47 +87,12 @@ pub fn plan_of(
     }) }
     ensures refused { IfErr result (λ fault. fault ≡ PlanFault.Memory _) }
 {
-    let mut circuit = Circuit::new(*gates.allocator(), first_work(graph) + work, limit);
-    append_all(&mut circuit, &mut gates, &mut copies)?;
+    let count = gates.len() as u64;
+    gates.append(&mut copies)?;
+    let mut circuit = Circuit::from_gates(first_work(graph) + work, limit, gates);
+    mirror(&mut circuit, count)?;
     let outputs = graph.outputs().len() as u32;
     Ok(Planned::new(circuit, graph.inputs(), outputs, work))
-}
-
-// Appends the gates, the copies, and the gates reversed, where there is room for them.
-fn append_all(
-    circuit: &mut Circuit,
-    gates: &mut Vec<Gate>,
-    copies: &mut Vec<Gate>,
-) -> Result<(), Memory>
-    requires empty { circuit.old.gates ≡ [] }
-    requires gates { AreGatesOn circuit.old.lines gates.old.items }
-    requires copies { AreGatesOn circuit.old.lines copies.old.items }
-    requires room { 2 * length gates.old.items + length copies.old.items ≤ circuit.old.limit }
-    ensures { OnOk result (circuit.new ≡ record circuit.old
-        { gates = gates.old.items ++ copies.old.items ++ reverse gates.old.items }) }
-{
-    append_gates(circuit, gates)?;
-    let count = circuit.len();
-    append_gates(circuit, copies)?;
-    mirror(circuit, count)
-}
-
-/// Appends gates on the circuit's lines, for which there is room, and leaves none in their list. It
-/// fails only for want of memory.
-pub fn append_gates(circuit: &mut Circuit, gates: &mut Vec<Gate>) -> Result<(), Memory>
-    requires on { AreGatesOn circuit.old.lines gates.old.items }
-    requires room { length circuit.old.gates + length gates.old.items ≤ circuit.old.limit }
-    ensures ok { OnOk result (circuit.new
-        ≡ record circuit.old { gates = circuit.old.gates ++ gates.old.items }) }
-    ensures emptied { OnOk result (gates.new.items ≡ []) }
-    ensures kept { OnErr result (gates.new.items ≡ gates.old.items) }
-    ensures err { OnErr result (circuit.new ≡ circuit.old) }
-{
-    match circuit.append(gates) {
-        Ok(()) => Ok(()),
-        Err(GateFault::Memory(memory)) => Err(memory),
-        Err(GateFault::Full) => unreachable!(),
-    }
 }
 
 // Appends the first gates in reversed order where there is room for them.

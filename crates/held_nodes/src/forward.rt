@@ -2,26 +2,29 @@
 ghost use Rattle.std.specs.Prelude.{◌≡◌, ◌+◌, ◌<◌, ◌≤◌, [], length, true, false, replicate, Option};
 ghost use Rattle.std.specs.Prelude.{None, Some, IfOk, IfErr, IfSome, IfNone};
 ghost use Rattle.std.specs.List.{AllByRecursion};
-ghost use Rattle.ancilla_heap.specs.Lines.{IsLineHeap, contains};
+ghost use Rattle.held_nodes.specs.inside.Lines.{IsLineHeap, contains};
 ghost use Rattle.sum_graph.specs.Graphs.{IsSumGraph, sum_outputs};
 ghost use Rattle.gate_split.specs.Costs.{IsRoomyFlip};
 ghost use Rattle.circuit_plans.specs.Plans.{AddsOutputs};
 ghost use Rattle.circuit_plans.specs.declared.roles.Start.TheVariants.{Any};
 ghost use Rattle.dependency_graph.specs.Graphs.{IsKnownBase};
-ghost use Rattle.held_nodes.specs.Held.{IsForward, first_work, held_line, is_held, is_ready};
+ghost use Rattle.held_nodes.specs.Held.{IsForward, held_line, is_held, is_ready};
+ghost use Rattle.sum_graph.specs.Graphs.{first_work};
 ghost use Rattle.held_nodes.specs.Moves.{CanClear, IsCleared, IsClearFault, IsFinishFault};
 ghost use Rattle.held_nodes.specs.Moves.{IsReadyNode, IsReadySum, IsStartFault, IsToggled};
 ghost use Rattle.held_nodes.specs.Moves.{IsToggleFault, copies_of, finished_weight, nothing_held};
-ghost use Rattle.held_nodes.specs.Moves.{planned_of, roles_of_plan, weight_in};
-ghost use Rattle.held_nodes.specs.Plans.{HasPorts, IsInBudget};
+ghost use Rattle.held_nodes.specs.Moves.{planned_of};
+ghost use Rattle.circuit_plans.specs.Plans.{roles_of_plan};
+ghost use Rattle.mct_circuit.specs.Sizes.{weight_in};
+ghost use Rattle.circuit_plans.specs.Plans.{HasPorts, IsInBudget};
 ghost use Rattle.held_nodes.specs.inside.Kept.{HasNoLineFor, HasProducts, IsLineFor, IsLineAfter};
 ghost use Rattle.held_nodes.specs.inside.Kept.{IsKept};
 ghost use Rattle.held_nodes.specs.Held.{ForwardView};
 
 use crate::clearing::append_cubes;
 use crate::copying::{copies_fit, copies_of, first_work, plan_of};
+use crate::heap::Heap;
 use crate::weighed::WeighedGates;
-use ancilla_heap::Heap;
 use circuit_plans::{Budget, PlanFault, Planned};
 use dependency_graph::Base;
 use exclusive_sums::Cube;
@@ -195,7 +198,8 @@ impl<'s> Forward<'s> {
         ensures ok { IfOk result (λ planned. planned ≡ planned_of self.entry) }
         ensures clean { IfOk result (λ planned. AddsOutputs Any (roles_of_plan planned)
             planned.circuit.gates (sum_outputs self.entry.graph)) }
-        ensures ports { IfOk result (HasPorts self.entry.graph) }
+        ensures ports { IfOk result (HasPorts self.entry.graph.inputs
+            (length self.entry.graph.outputs)) }
         ensures within { IfOk result (IsInBudget self.entry.budget) }
         ensures weighs { IfOk result (λ planned.
             weight_in planned.circuit.gates ≡ finished_weight self.entry) }

@@ -1,9 +1,9 @@
 // The heap of work lines. Lines from `next` on were never out; those below it that are back wait in
 // `free`.
 ghost use Rattle.std.specs.Prelude.{◌≡◌, [], length, max, IfOk, IfSome, IfNone, IsNone, ◌↔◌, true};
-ghost use Rattle.ancilla_heap.specs.Lines.{IsLineHeap, IsLeastFree, contains, with_taken};
-ghost use Rattle.ancilla_heap.specs.Lines.{without_line, HeapView};
-ghost use Rattle.ancilla_heap.specs.inside.Heaps.{view_of, IsKept};
+ghost use Rattle.held_nodes.specs.inside.Lines.{IsLineHeap, IsLeastFree, contains, with_taken};
+ghost use Rattle.held_nodes.specs.inside.Lines.{without_line, HeapView};
+ghost use Rattle.held_nodes.specs.inside.Heaps.{view_of, IsKept};
 
 use revc_base::Memory;
 use std::alloc::Global;

@@ -6,9 +6,9 @@
 mod clearing;
 mod copying;
 mod forward;
+mod heap;
 mod law;
 mod weighed;
 
-pub use copying::append_gates;
 pub use forward::{Forward, Moved};
 pub use law::toggles_are_narrow;

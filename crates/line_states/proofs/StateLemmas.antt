@@ -7,7 +7,10 @@ use Rattle.dependency_graph.specs.declared.node.Base.{Base}
 use Rattle.mct_circuit.specs.Gates.{AreGatesOn, GateView, IsGateOn, IsNarrow, line_map, lines_of}
 use Rattle.mct_circuit.proofs.MoreLinesLemmas.{more_lines}
 use Rattle.mct_circuit.proofs.ReversalLemmas.{line_map-append}
-use Rattle.line_states.specs.States.{AreStates, StatesView, set_value, with_line, with_set}
+use Rattle.circuit_plans.specs.declared.roles.Start.{Start}
+use Rattle.circuit_plans.specs.declared.roles.Start.TheVariants.{Any, Zero}
+use Rattle.sum_graph.specs.Graphs.{SumGraphView, first_work}
+use Rattle.line_states.specs.States.{AreStates, StatesView, given_lines, set_value, with_line, with_set}
 use Rattle.line_states.specs.inside.Places.{MovesSets}
 
 pub changed : (s : StatesView) (line : ℕ) (new : List Base) (more : List GateView) → AreStates s → MovesSets s line new more
@@ -25,14 +28,19 @@ changed s line new more are moves room =
       narrow = AllByRecursion-append IsNarrow s.gates more are.narrow moves.narrow;
       holds = record {
         on = λ input size.
-            (ap (λ (n : ℕ). line_map (s.gates ++ more) (input ++ zeros (n - s.graph.inputs))) same
-            ∙ line_map-append s.gates more (input ++ zeros (length s.sets - s.graph.inputs))
+            (ap (λ (n : ℕ). line_map (s.gates ++ more) (input ++ zeros (n - given_lines s.start s.graph))) same
+            ∙ line_map-append s.gates more (input ++ zeros (length s.sets - given_lines s.start s.graph))
             ∙ ap (line_map more) (are.holds.on input size)
             ∙ moves.moves input);
       };
     }
 
 -- ---- one line more
+
+-- lines of the inputs and outputs alone are given bits
+pub given_few : (start : Start) (g : SumGraphView) → given_lines start g ≤ first_work g
+given_few Any g = omega arith
+given_few Zero g = omega arith
 
 more_on : (n m : ℕ) → n ≤ m → (gates : List GateView) → AreGatesOn n gates → AreGatesOn m gates
 more_on n m le gates on =
@@ -55,11 +63,13 @@ widened s are room =
       narrow = are.narrow;
       holds = record {
         on = λ input size.
-            (let k = length s.sets - s.graph.inputs in
-            let left : length (s.sets ++ none ∷ []) - s.graph.inputs ≡ k + 1 = omega (arith, long, are.wide) in
+            (let given = given_lines s.start s.graph in
+            let ports = given_few s.start s.graph in
+            let k = length s.sets - given in
+            let left : length (s.sets ++ none ∷ []) - given ≡ k + 1 = omega (arith, long, ports, are.wide) in
             let bits = input ++ zeros k in
             let wide : length s.sets ≡ length bits =
-            (let a = length-append input (zeros k) in let z = length-replicate k false in omega (arith, a, z, size, are.wide)) in
+            (let a = length-append input (zeros k) in let z = length-replicate k false in omega (arith, a, z, size, ports, are.wide)) in
             ap (λ (n : ℕ). line_map s.gates (input ++ zeros n)) left
             ∙ ap (λ (more : List Bool). line_map s.gates (input ++ more)) (sym (replicate_more k false))
             ∙ ap (line_map s.gates) (sym (append_assoc input (zeros k) (false ∷ [])))

@@ -10,16 +10,20 @@ use Rattle.dependency_graph.specs.Graphs.{base_bit}
 use Rattle.bit_sums.specs.Bits.{apart}
 use Rattle.bit_sums.specs.Sums.{SumView, xor_by}
 use Rattle.circuit_plans.specs.declared.plan.TheConstants.{MOST_LINES}
+use Rattle.circuit_plans.specs.declared.roles.Start.{Start}
+use Rattle.circuit_plans.specs.declared.roles.Start.TheVariants.{Any, Zero}
 use Rattle.circuit_plans.specs.Plans.{BudgetView, PlannedView}
-use Rattle.held_nodes.specs.Held.{first_work}
+use Rattle.sum_graph.specs.Graphs.{first_work}
 use Rattle.mct_circuit.specs.Gates.{AreGatesOn, AreNarrow, GateView, flip_of, line_map}
 use Rattle.sum_graph.specs.Graphs.{IsSumGraph, SumGraphView, sums_made}
 use Rattle.line_states.specs.Gathers.{PairView, all_fit, set_at, toggle_gates}
 
--- a circuit in the making: the graph, the budget, the gates so far, and for each line its set
+-- a circuit in the making: the graph, the budget, what the output lines may hold at the start, the
+-- gates so far, and for each line its set
 pub record StatesView : Type 0 where
   pub graph : SumGraphView
   pub budget : BudgetView
+  pub start : Start
   pub gates : List GateView
   pub sets : List (List Base)
 
@@ -29,22 +33,29 @@ pub record StatesView : Type 0 where
 abbrev pub all_sums : SumGraphView → List SumView
 all_sums g = g.nodes ++ g.outputs
 
--- the value of a bit on an input
+-- how many of the first lines are given any bits: those of the inputs, and those of the outputs where
+-- these may hold any
+abbrev pub given_lines : Start → SumGraphView → ℕ
+given_lines Any g = first_work g
+given_lines Zero g = g.inputs
+
+-- the value of a bit, with these bits on the given lines; that of an output line counts as an input
+-- behind the inputs
 abbrev pub bit_value : SumGraphView → List Bool → Base → Bool
-bit_value g input base = base_bit (bit_of input) (sums_made (bit_of input) [] (all_sums g)) base
+bit_value g given base = base_bit (bit_of given) (sums_made (bit_of given) [] (all_sums g)) base
 
 -- the value of a set
 abbrev pub set_value : SumGraphView → List Bool → List Base → Bool
-set_value g input set = xor_by (bit_value g input) set
+set_value g given set = xor_by (bit_value g given) set
 
 -- ---- what is kept
 
--- on every input, with zeros on the other lines, each line's bit behind the gates is the value of
--- its set
+-- whatever bits are given, with zeros on the other lines, each line's bit behind the gates is the
+-- value of its set
 pub record HoldsSets (s : StatesView) : Type 0 where
-  pub on : (input : List Bool) → length input ≡ s.graph.inputs
-      → line_map s.gates (input ++ zeros (length s.sets - s.graph.inputs))
-      ≡ map (set_value s.graph input) s.sets
+  pub on : (given : List Bool) → length given ≡ given_lines s.start s.graph
+      → line_map s.gates (given ++ zeros (length s.sets - given_lines s.start s.graph))
+      ≡ map (set_value s.graph given) s.sets
 
 -- The gates hold the sets, and are narrow; there is a line for each input and output, and lines and
 -- gates are within the budget.
@@ -60,13 +71,18 @@ pub record AreStates (s : StatesView) : Type 0 where
 
 -- ---- the beginning
 
--- so many lines that hold their inputs, and so many others that hold nothing
+-- so many lines that hold the bits that they are given, and so many others that hold nothing
 abbrev pub start_sets : ℕ → ℕ → List (List Base)
-start_sets inputs others = map (λ (i : ℕ). bases.Input i ∷ []) (below inputs) ++ replicate others []
+start_sets given others = map (λ (i : ℕ). bases.Input i ∷ []) (below given) ++ replicate others []
 
-abbrev pub begun : SumGraphView → BudgetView → StatesView
-begun g b =
-    record { graph = g; budget = b; gates = []; sets = start_sets g.inputs (length g.outputs) }
+abbrev pub begun : SumGraphView → BudgetView → Start → StatesView
+begun g b start = record {
+  graph = g;
+  budget = b;
+  start = start;
+  gates = [];
+  sets = start_sets (given_lines start g) (first_work g - given_lines start g);
+}
 
 -- ---- the steps
 
@@ -136,14 +152,28 @@ toggled s node onto pairs =
 
 -- ---- the end
 
--- each input line holds its own input, each output line its output, and no other line anything
-pub record AreEnded (s : StatesView) : Type 0 where
-  pub inputs : AllFrom (λ i (set : List Base). set ≡ bases.Input i ∷ []) 0
-      (take s.graph.inputs s.sets)
-  pub outputs : AllFrom (λ k (set : List Base). set ≡ bases.Node k ∷ []) (length s.graph.nodes)
-      (take (length s.graph.outputs) (drop s.graph.inputs s.sets))
-  pub work : AllByRecursion (λ (set : List Base). set ≡ [])
-      (drop (length s.graph.outputs) (drop s.graph.inputs s.sets))
+-- the set of an output line: its output, beside the bit that it was given
+abbrev pub output_set : Start → Base → Base → List Base
+output_set Any held output = held ∷ output ∷ []
+output_set Zero held output = output ∷ []
+
+-- that of the k-th one, behind so many inputs and nodes
+abbrev pub ended_set : Start → ℕ → ℕ → ℕ → List Base
+ended_set start inputs nodes k = output_set start (bases.Input (inputs + k)) (bases.Node (nodes + k))
+
+-- each of n input lines holds its own input, each output line what it did and its output, which is
+-- counted behind so many nodes, and no work line anything
+pub record AreEndSets (start : Start) (n nodes : ℕ) (inputs outputs work : List (List Base))
+    : Type 0 where
+  pub own : AllFrom (λ i (set : List Base). set ≡ bases.Input i ∷ []) 0 inputs
+  pub added : AllFrom (λ k (set : List Base). set ≡ ended_set start n nodes k) 0 outputs
+  pub empty : AllByRecursion (λ (set : List Base). set ≡ []) work
+
+abbrev pub AreEnded : StatesView → Type 0
+AreEnded s =
+    AreEndSets s.start s.graph.inputs (length s.graph.nodes) (take s.graph.inputs s.sets)
+    (take (length s.graph.outputs) (drop s.graph.inputs s.sets))
+    (drop (length s.graph.outputs) (drop s.graph.inputs s.sets))
 
 abbrev pub planned_of_parts : SumGraphView → BudgetView → ℕ → List GateView → PlannedView
 planned_of_parts g b lines gates = record {

@@ -1,8 +1,9 @@
 -- Scripts: the state behind a step, and behind all of them.
 use Rattle.std.specs.Prelude.{◌≡◌, if◌then◌else◌, List, [], ◌∷◌, Option, Some, None, option_and_then}
+use Rattle.circuit_plans.specs.declared.roles.Start.{Start}
 use Rattle.circuit_plans.specs.Plans.{BudgetView}
-use Rattle.held_nodes.specs.Held.{first_work}
-use Rattle.held_nodes.specs.Plans.{HasPortLines}
+use Rattle.sum_graph.specs.Graphs.{first_work}
+use Rattle.circuit_plans.specs.Plans.{HasPortLines}
 use Rattle.sum_graph.specs.Graphs.{SumGraphView}
 use Rattle.line_states.specs.declared.steps.Step.{Step}
 use Rattle.line_states.specs.declared.steps.Step.TheVariants as steps
@@ -21,8 +22,9 @@ took_all s [] = Some s
 took_all s (x ∷ xs) = option_and_then (λ t. took_all t xs) (took s x)
 
 -- the budget has the lines of the inputs and outputs, and the steps lead from there to an end
-pub record LeadToEnd (g : SumGraphView) (b : BudgetView) (script : List Step) : Type 0 where
+pub record LeadToEnd (g : SumGraphView) (b : BudgetView) (start : Start) (script : List Step)
+    : Type 0 where
   pub room : HasPortLines (first_work g) b
   pub last : StatesView
-  pub is : took_all (begun g b) script ≡ Some last
+  pub is : took_all (begun g b start) script ≡ Some last
   pub ended : AreEnded last

@@ -30,3 +30,10 @@ pub fn is_alone(set: &[Base], base: Base) -> bool
 {
     set.len() == 1 && set[0] == base
 }
+
+// Whether a set is that of these two bits.
+pub fn is_pair(set: &[Base], first: Base, second: Base) -> bool
+    ensures { IsTrue result ↔ (set.now ≡ first ∷ second ∷ []) }
+{
+    set.len() == 2 && set[0] == first && set[1] == second
+}

@@ -3,26 +3,25 @@ ghost use Rattle.std.specs.Prelude.{◌≡◌, ◌+◌, ◌<◌, ◌≤◌, ◌�
 ghost use Rattle.std.specs.Prelude.{if◌then◌else◌, IfOk, OnOk, OnErr, IfSome, IsTrue, IsSome};
 ghost use Rattle.std.specs.Prelude.{replicate};
 ghost use Rattle.circuit_plans.specs.declared.plan.TheConstants.{MOST_LINES};
-ghost use Rattle.circuit_plans.specs.declared.roles.Start.TheVariants.{Zero};
-ghost use Rattle.held_nodes.specs.Held.{first_work};
-ghost use Rattle.held_nodes.specs.Plans.{HasPortLines, IsNarrowPlan};
+ghost use Rattle.sum_graph.specs.Graphs.{first_work, sum_outputs};
+ghost use Rattle.circuit_plans.specs.Plans.{HasPortLines, IsNarrowPlan};
 ghost use Rattle.mct_circuit.specs.Gates.{AreGatesOn};
 ghost use Rattle.line_states.specs.Gathers.{set_at};
 ghost use Rattle.line_states.specs.States.{AreEnded, AreStates, all_sums, begun, can_copy};
 ghost use Rattle.line_states.specs.States.{can_toggle, copied, has_line, has_room, planned_of};
-ghost use Rattle.line_states.specs.States.{planned_of_parts, start_sets, sum_at, StatesView};
+ghost use Rattle.line_states.specs.States.{given_lines, planned_of_parts, start_sets, sum_at};
+ghost use Rattle.line_states.specs.States.{StatesView};
 ghost use Rattle.line_states.specs.States.{toggled, with_line, with_set};
 ghost use Rattle.line_states.specs.inside.Places.{MovesSets};
 
-use crate::ending::{are_empty, are_inputs, are_nodes};
+use crate::ending::{Ends, are_ended};
 use crate::gates::{copy_gates, toggle_gates};
 use crate::gathers::Pair;
 use crate::placing::all_fit;
 use crate::sets::toggled_set;
 use bit_sums::{Sum, apart};
-use circuit_plans::{Budget, Planned};
+use circuit_plans::{Budget, Planned, Start};
 use dependency_graph::Base;
-use held_nodes::append_gates;
 use mct_circuit::{Circuit, Gate};
 use revc_base::{Key, Memory};
 use std::alloc::Global;
@@ -37,6 +36,7 @@ use sum_graph::SumGraph;
 pub struct LineStates<'s> {
     graph: &'s SumGraph,
     budget: &'s Budget,
+    start: Start,
     gates: Vec<Gate>,
     sets: Vec<Key<Base>>,
 }
@@ -47,6 +47,7 @@ impl<'s> Model for LineStates<'s> {
     ghost view = { λ s. record {
       graph = s.graph.now;
       budget = s.budget.now;
+      start = s.start;
       gates = s.gates.items;
       sets = s.sets.items;
     } };
@@ -54,29 +55,33 @@ impl<'s> Model for LineStates<'s> {
     ghost invariant = { λ s. AreStates (record {
       graph = s.graph.now;
       budget = s.budget.now;
+      start = s.start;
       gates = s.gates.items;
       sets = s.sets.items;
     }) };
 }
 
 impl<'s> LineStates<'s> {
-    /// No gates yet: each input line holds its input, each output line nothing, and there are no
-    /// other lines.
+    /// No gates yet: each input line holds its input, each output line a bit of its own where it may
+    /// hold any, and else nothing, and there are no other lines.
     pub fn new(
         alloc: Global,
         graph: &'s SumGraph,
         budget: &'s Budget,
+        start: Start,
     ) -> Result<LineStates<'s>, Memory>
         requires { HasPortLines (first_work graph.now) budget.now }
-        ensures { IfOk result (λ states. states ≡ begun graph.now budget.now) }
+        ensures { IfOk result (λ states. states ≡ begun graph.now budget.now start) }
     {
         // This call says that the budget has few lines.
         let _ = budget.lines();
-        let outputs = graph.outputs().len() as u32;
-        let sets = start_sets(alloc, graph.inputs(), outputs)?;
+        let given = given_lines(graph, start);
+        let ports = graph.inputs() + graph.outputs().len() as u32;
+        let sets = start_sets(alloc, given, ports - given)?;
         Ok(LineStates {
             graph,
             budget,
+            start,
             gates: Vec::new(alloc),
             sets,
         })
@@ -181,25 +186,24 @@ impl<'s> LineStates<'s> {
     }
 
     /// The plan, exactly where each input line holds its input alone, each output line its output
-    /// alone, and every other line nothing.
-    pub fn finish(self, alloc: Global) -> Result<Option<Planned>, Memory>
-        ensures exact { IfOk result (λ found. IsSome found ↔ AreEnded self.entry) }
-        ensures plan { IfOk result (λ found. IfSome found (λ planned.
-            planned ≡ planned_of self.entry)) }
-        ensures narrow { IfOk result (λ found. IfSome found
-            (IsNarrowPlan Zero self.entry.graph self.entry.budget)) }
+    /// beside what it held, and every other line nothing. It takes no memory.
+    pub fn finish(self) -> Option<Planned>
+        ensures exact { IsSome result ↔ AreEnded self.entry }
+        ensures plan { IfSome result (λ planned. planned ≡ planned_of self.entry) }
+        ensures narrow { IfSome result (IsNarrowPlan self.entry.start self.entry.graph.inputs
+            (length self.entry.graph.outputs) (sum_outputs self.entry.graph) self.entry.budget) }
     {
         if !self.is_ended() {
-            return Ok(None);
+            return None;
         }
         let LineStates {
             graph,
             budget,
             gates,
             sets,
+            ..
         } = self;
-        let planned = plan_of(alloc, graph, budget, sets.len() as u32, gates)?;
-        Ok(Some(planned))
+        Some(plan_of(graph, budget, sets.len() as u32, gates))
     }
 
     fn is_ended(&self) -> bool
@@ -209,7 +213,23 @@ impl<'s> LineStates<'s> {
         let sets = self.sets.as_slice();
         let (inputs, rest) = sets.split_at(self.graph.inputs() as usize);
         let (outputs, work) = rest.split_at(self.graph.outputs().len());
-        are_inputs(inputs) && are_nodes(outputs, self.graph.nodes()) && are_empty(work)
+        let ends = Ends {
+            start: self.start,
+            inputs: self.graph.inputs(),
+            nodes: self.graph.nodes(),
+        };
+        are_ended(ends, inputs, outputs, work)
+    }
+}
+
+// How many of the first lines are given any bits.
+fn given_lines(graph: &SumGraph, start: Start) -> u32
+    ensures lines { result ≡ given_lines start graph.now }
+    ensures few { result ≤ first_work graph.now }
+{
+    match start {
+        Start::Any => graph.inputs() + graph.outputs().len() as u32,
+        Start::Zero => graph.inputs(),
     }
 }
 
@@ -227,32 +247,24 @@ fn sum_at(graph: &SumGraph, node: u32) -> &Sum
 }
 
 // The plan of these gates.
-fn plan_of(
-    alloc: Global,
-    graph: &SumGraph,
-    budget: &Budget,
-    lines: u32,
-    mut gates: Vec<Gate>,
-) -> Result<Planned, Memory>
+fn plan_of(graph: &SumGraph, budget: &Budget, lines: u32, gates: Vec<Gate>) -> Planned
     requires ports { first_work graph.now ≤ lines }
     requires gates { AreGatesOn lines gates.items }
     requires room { length gates.items ≤ budget.now.gates }
-    ensures { IfOk result (λ planned. planned
-        ≡ planned_of_parts graph.now budget.now lines gates.items) }
+    ensures { result ≡ planned_of_parts graph.now budget.now lines gates.items }
 {
-    let mut circuit = Circuit::new(alloc, lines, budget.gates());
-    append_gates(&mut circuit, &mut gates)?;
+    let circuit = Circuit::from_gates(lines, budget.gates(), gates);
     let outputs = graph.outputs().len() as u32;
     let work = lines - (graph.inputs() + outputs);
-    Ok(Planned::new(circuit, graph.inputs(), outputs, work))
+    Planned::new(circuit, graph.inputs(), outputs, work)
 }
 
 // The sets at the beginning.
-fn start_sets(alloc: Global, inputs: u32, others: u32) -> Result<Vec<Key<Base>>, Memory>
-    ensures { IfOk result (λ sets. sets.items ≡ start_sets inputs others) }
+fn start_sets(alloc: Global, given: u32, others: u32) -> Result<Vec<Key<Base>>, Memory>
+    ensures { IfOk result (λ sets. sets.items ≡ start_sets given others) }
 {
     let mut sets = Vec::new(alloc);
-    for i in 0..inputs {
+    for i in 0..given {
         let set = Vec::from_slice(alloc, &[Base::Input(i)])?;
         sets.push(Key::new(set))?;
     }

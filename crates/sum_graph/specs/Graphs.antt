@@ -19,6 +19,10 @@ pub record SumGraphView : Type 0 where
   pub nodes : List SumView
   pub outputs : List SumView
 
+-- the number of inputs and outputs: the first line behind those of the inputs and outputs
+abbrev pub first_work : SumGraphView → ℕ
+first_work g = g.inputs + length g.outputs
+
 -- ---- what a graph of sums keeps
 
 -- one of n inputs, or of the nodes before the k-th

@@ -15,7 +15,7 @@ use Rattle.dependency_graph.proofs.FoldLemmas.{other_bases, same_bases}
 use Rattle.bit_sums.specs.Products.{IsProduct}
 use Rattle.bit_sums.specs.Sums.{ProductView, SumView, bases_of, product_bases, product_value, sum_value, xor_by}
 use Rattle.mct_circuit.specs.Gates.{AreGatesOn, AreNarrow, GateView, IsGateOn, IsNarrow, flip_of}
-use Rattle.mct_circuit.specs.Sizes.{weight_of}
+use Rattle.mct_circuit.specs.Sizes.{weight_in, weight_of}
 use Rattle.mct_circuit.proofs.ReversalLemmas.{lines_of-flip_of}
 use Rattle.mct_circuit.proofs.WeightLemmas.{weight-reverse}
 use Rattle.sum_toggles.specs.Toggles.{HaveLines, bit_gates, both_gathered, gathers, one_gates}
@@ -147,9 +147,6 @@ narrow_sum line target s =
     (narrow_one target s.one)
 
 -- ---- weights
-
-abbrev pub weight_in : List GateView → ℕ
-weight_in gates = sum_by weight_of gates
 
 -- one copy more
 weight_copy : (line target : ℕ) (gates : List GateView) → weight_in (flip_of (line ∷ []) target ∷ gates) ≡ suc (weight_in gates)

@@ -6,7 +6,7 @@ use Rattle.sum_graph.specs.Graphs.{SumGraphView}
 use Rattle.circuit_plans.specs.declared.plan.PlanFault.{PlanFault}
 use Rattle.circuit_plans.specs.declared.plan.PlanFault.TheVariants.{Lines, Gates, Memory}
 use Rattle.held_nodes.specs.Held.{ForwardView, is_held, work_lines}
-use Rattle.held_nodes.specs.Moves.{weight_in}
+use Rattle.mct_circuit.specs.Sizes.{weight_in}
 use Rattle.mct_circuit.specs.Gates.{AreNarrow}
 use Rattle.bennett_pebbling.specs.Pebbling.{IsLight}
 

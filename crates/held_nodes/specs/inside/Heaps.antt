@@ -4,8 +4,8 @@ use Rattle.std.specs.List.{filter, sum_by, range_with_len}
 use Rattle.std.specs.BinaryHeap.{heap_items, heap_len, heap_capacity, IsHeap}
 use Rattle.std.specs.Ordering.{nat_cmp}
 use Rattle.std.specs.declared.cmp.Reverse.{Reverse}
-use Rattle.ancilla_heap.specs.declared.heap.Heap.TheInside.{Inside}
-use Rattle.ancilla_heap.specs.Lines.{HeapView}
+use Rattle.held_nodes.specs.declared.heap.Heap.TheInside.{Inside}
+use Rattle.held_nodes.specs.inside.Lines.{HeapView}
 
 -- how often a line stands in a list
 abbrev pub count_of : List (Reverse ℕ) → ℕ → ℕ

@@ -1,7 +1,7 @@
 -- What the fields of a forward part keep.
 use Rattle.std.specs.Prelude.{◌≡◌, ℕ, ◌/◌, ◌<◌, ◌≤◌, max, List, length, Option, Some, None, ⊤}
-use Rattle.ancilla_heap.specs.Lines as heaps
-use Rattle.ancilla_heap.specs.Lines.{HeapView, contains, IsLineHeap, with_taken, without_line}
+use Rattle.held_nodes.specs.inside.Lines as heaps
+use Rattle.held_nodes.specs.inside.Lines.{HeapView, contains, IsLineHeap, with_taken, without_line}
 use Rattle.bit_sums.specs.Products.{IsProduct}
 use Rattle.bit_sums.specs.Sums.{SumView, bases_of}
 use Rattle.circuit_plans.specs.declared.plan.PlanFault.{PlanFault}

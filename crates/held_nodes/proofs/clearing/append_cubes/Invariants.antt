@@ -1,7 +1,8 @@
 use Rattle.std.proofs.Common.{◌≡◌, ◌≤◌, ◌++◌, drop, take}
 use Rattle.std.specs.List.{AllByRecursion}
 use Rattle.exclusive_sums.specs.Cubes.{IsCube}
-use Rattle.held_nodes.specs.Moves.{cube_flips, weight_in}
+use Rattle.held_nodes.specs.Moves.{cube_flips}
+use Rattle.mct_circuit.specs.Sizes.{weight_in}
 use Rattle.held_nodes.proofs.clearing.append_cubes.Given as goal
 
 abbrev pub invariant-loop-cube : goal.invariant-loop-cube

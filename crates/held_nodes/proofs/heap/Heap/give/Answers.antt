@@ -3,10 +3,10 @@ use Rattle.std.specs.Result.{IsOk}
 use Rattle.std.specs.List.Sorted.{IsPermutation}
 use Rattle.std.specs.BinaryHeap.{heap_items, heap_len}
 use Rattle.std.proofs.lemmas.List.Sorted.{length_permutation}
-use Rattle.ancilla_heap.specs.Lines.{HeapView, contains, without_line}
-use Rattle.ancilla_heap.specs.inside.Heaps.{AreLines}
-use Rattle.ancilla_heap.proofs.FreeLineLemmas.{lines_with_given, lines_moved, seen_given, room_for_one, at_ok}
-use Rattle.ancilla_heap.proofs.heap.Heap.give.Goals as goal
+use Rattle.held_nodes.specs.inside.Lines.{HeapView, contains, without_line}
+use Rattle.held_nodes.specs.inside.Heaps.{AreLines}
+use Rattle.held_nodes.proofs.FreeLineLemmas.{lines_with_given, lines_moved, seen_given, room_for_one, at_ok}
+use Rattle.held_nodes.proofs.heap.Heap.give.Goals as goal
 
 lines : (c : goal.After-push) → AreLines c.self.inside.limit c.self.inside.next (record { 0 = c.args.line } ∷ heap_items c.self.inside.free)
 lines c = lines_with_given _ _ _ _ c.self.invariant.lines (subst (λ (h : HeapView). contains h.out c.args.line ≡ true) (sym c.self.view_is) c.requires)

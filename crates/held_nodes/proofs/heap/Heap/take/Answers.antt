@@ -3,11 +3,11 @@ use Rattle.std.specs.BinaryHeap.{heap_items}
 use Rattle.std.proofs.lemmas.Bool.{true≢false}
 use Rattle.std.proofs.lemmas.List.{nil_from_length}
 use Rattle.std.proofs.lemmas.List.Sorted.{length_permutation}
-use Rattle.ancilla_heap.specs.Lines.{HeapView, IsLineHeap, IsLeastFree, with_taken}
-use Rattle.ancilla_heap.proofs.FreeLineLemmas.{IsTop, lines_without_top, top_is_least, seen_top, top_not_all_out, IsLineHeap-seen, lines_when_empty}
-use Rattle.ancilla_heap.proofs.FreeLineLemmas.{least_when_empty, seen_when_empty, not_all_out_when_empty, all_out_when_empty}
-use Rattle.ancilla_heap.proofs.PeakLemmas.{peak_taken}
-use Rattle.ancilla_heap.proofs.heap.Heap.take.Goals as goal
+use Rattle.held_nodes.specs.inside.Lines.{HeapView, IsLineHeap, IsLeastFree, with_taken}
+use Rattle.held_nodes.proofs.FreeLineLemmas.{IsTop, lines_without_top, top_is_least, seen_top, top_not_all_out, IsLineHeap-seen, lines_when_empty}
+use Rattle.held_nodes.proofs.FreeLineLemmas.{least_when_empty, seen_when_empty, not_all_out_when_empty, all_out_when_empty}
+use Rattle.held_nodes.proofs.PeakLemmas.{peak_taken}
+use Rattle.held_nodes.proofs.heap.Heap.take.Goals as goal
 
 top : (c : goal.In-Some) → IsTop c.self.inside.limit c.self.inside.next c.in-Some.field-0 (heap_items c.self.inside.free) (heap_items c.pop.new.self)
 top c = record {

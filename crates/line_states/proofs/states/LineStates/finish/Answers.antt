@@ -5,5 +5,5 @@ use Rattle.line_states.proofs.states.LineStates.finish.Goals as goal
 
 pub returns-clause-narrow : goal.returns-clause-narrow
 returns-clause-narrow c =
-    let is : c.in_ok-planned.planned ≡ planned_of c.args.self = search rules in
+    let is : c.plan_of.result ≡ planned_of c.args.self = search rules in
     rw is (ended_plan c.args.self c.is_ended.ensures.keeps (c.is_ended.ensures.ended.0 c.if-not-is_ended.false))

@@ -15,6 +15,7 @@ toggle_gates-requires c =
     let s : StatesView = record {
       graph = c.self.inside.graph.now;
       budget = c.self.inside.budget.now;
+      start = c.self.inside.start;
       gates = c.self.inside.gates.items;
       sets = c.self.inside.sets.items;
     } in
@@ -29,6 +30,7 @@ change-requires c =
     let s : StatesView = record {
       graph = c.self.inside.graph.now;
       budget = c.self.inside.budget.now;
+      start = c.self.inside.start;
       gates = c.self.inside.gates.items;
       sets = c.self.inside.sets.items;
     } in
