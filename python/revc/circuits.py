@@ -1,71 +1,30 @@
 """Clean circuits: their files, what they cost, and what they do on numbers."""
 import functools
 from pathlib import Path
-from typing import TYPE_CHECKING, Any, Dict, List, NamedTuple, Optional, Sequence, Tuple, Union
+from typing import Any, Dict, List, Optional, Sequence, Union, overload
 
 from . import program
+from .counting import Cost, cost_of
+from .defaults import NODES, WAY
+from .drawing import Drawing, Picture
 from .errors import RevcError
+from .program import Deadline
+from .real import GateList, read_real
+from .revs import RevsText
 
-if TYPE_CHECKING:
-    from .sources import Source
-
-T_GATES = 7  # of a Toffoli gate, without measurements
 WORDS = 100000  # letters of input words that one call of `run` gets
-
-
-class Cost(NamedTuple):
-    """What a circuit costs: lines by role, gates by kind, and depths in gates; `t` counts 7 T gates a Toffoli gate."""
-
-    inputs: int
-    outputs: int
-    work: int
-    borrowed: int
-    gates: int
-    toffoli: int
-    toffoli_depth: int
-    t: int
-    cx: int
-    x: int
-    depth: int
-
-    @property
-    def lines(self) -> int:
-        return self.inputs + self.outputs + self.work + self.borrowed
-
-    def __str__(self) -> str:
-        roles = ["{:,} input{}".format(self.inputs, "s" * (self.inputs > 1)),
-                 "{:,} output{}".format(self.outputs, "s" * (self.outputs > 1)), "{:,} work".format(self.work)]
-        roles += ["{:,} borrowed".format(self.borrowed)] if self.borrowed else []
-        return "{:,} lines ({}), {:,} gates: {:,} Toffoli (depth {:,}; {:,} T), {:,} CX, {:,} X; depth {:,}".format(
-            self.lines, ", ".join(roles),
-            self.gates, self.toffoli, self.toffoli_depth, self.t, self.cx, self.x, self.depth)
-
-
-def form_of(text: Union[str, bytes]) -> str:
-    """The format of a circuit's text."""
-    start = text[:4000].decode(errors="replace") if isinstance(text, bytes) else text[:4000]
-    lines = [line for line in start.split("\n") if line.strip() and not line.strip().startswith(("//", "#"))]
-    return "qasm" if lines and lines[0].strip().startswith("OPENQASM") else "real"
-
-
-def depths(gates: Sequence[Sequence[int]], lines: int) -> Tuple[int, int]:
-    """The depth of gates, each the list of its lines, and the same with Toffoli gates alone counted."""
-    all_, toffoli = [0] * lines, [0] * lines
-    for gate in gates:
-        deep, deep3 = max([all_[i] for i in gate]) + 1, max([toffoli[i] for i in gate]) + (len(gate) > 2)
-        for i in gate:
-            all_[i], toffoli[i] = deep, deep3
-    return max(all_), max(toffoli)
+SHOWN = 1500  # gates up to which a notebook shows the picture of a circuit
+COLUMNS = 60  # gates side by side in a picture, then it goes on below
 
 
 class Circuit:
     """A compiled circuit. `real` is its `.real` file; `print(circuit)` shows what it costs."""
 
-    def __init__(self, source: "Source", real: bytes, words: Sequence[str], borrowed: int = 0):
+    def __init__(self, source: RevsText, real: bytes, words: Sequence[str], borrowed: int = 0):
         self.source, self.real, self.words, self.borrowed = source, real.decode(), list(words), borrowed
 
     def __repr__(self) -> str:
-        return "<%s: %s>" % (self.source.name, self.cost)
+        return f"<{self.source.name}: {self.cost}>"
 
     def __str__(self) -> str:
         return str(self.cost)
@@ -80,12 +39,14 @@ class Circuit:
         return self.words[self.words.index("--plan") + 1]
 
     @functools.cached_property
+    def gate_list(self) -> GateList:
+        """The file as it is read: names and marks of the lines, and the gates."""
+        return read_real(self.real)
+
+    @functools.cached_property
     def gates(self) -> List[List[int]]:
         """The gates in order, each the list of its lines, the target last."""
-        head, body = self.real.split(".begin\n", 1)
-        names = next(line for line in head.split("\n") if line.startswith(".variables")).split()[1:]
-        places = {name: i for i, name in enumerate(names)}
-        return [[places[name] for name in line.split()[1:]] for line in body.split("\n") if line.startswith("t")]
+        return [gate.lines for gate in self.gate_list.gates]
 
     @property
     def lines(self) -> int:
@@ -93,13 +54,7 @@ class Circuit:
 
     @functools.cached_property
     def cost(self) -> Cost:
-        sizes = [0, 0, 0, 0]
-        for gate in self.gates:
-            sizes[len(gate)] += 1
-        inputs, outputs = self.source.inputs, self.source.outputs
-        depth, toffoli_depth = depths(self.gates, self.lines)
-        return Cost(inputs, outputs, self.lines - inputs - outputs - self.borrowed, self.borrowed, len(self.gates),
-                    sizes[3], toffoli_depth, T_GATES * sizes[3], sizes[2], sizes[1], depth)
+        return cost_of(self.gates, self.source.inputs, self.source.outputs, self.borrowed, self.lines)
 
     # ---- Running
 
@@ -107,8 +62,9 @@ class Circuit:
         """What the circuit puts out for numbers; it is refused where it does not leave its other lines as it should."""
         return self.run_many([dict(zip([name for name, _ in self.source.params], args), **named)])[0]
 
-    def run_many(self, rows: Sequence[Dict[str, int]], form: str = "real") -> List[Any]:
+    def run_many(self, rows: Sequence[Dict[str, int]], form: str = "real", timeout: Optional[float] = None) -> List[Any]:
         """The same for many rows of numbers at once, by the `.real` file or, with "qasm", by the OpenQASM one."""
+        deadline = Deadline(timeout)
         loan = "".join("10"[i % 2] for i in range(self.borrowed))  # borrowed lines may hold anything
         inputs, outputs, answers = self.source.inputs, self.source.outputs, []
         zeros = "0" * (self.lines - inputs - self.borrowed)
@@ -118,18 +74,19 @@ class Circuit:
         size = max(1, WORDS // (len(words[0]) + 1)) if words else 1
         for at in range(0, len(words), size):
             some = words[at:at + size]
-            for word, line in zip(some, program.call(["run", "--from", form, *some], text).decode().split()):
+            found = program.call(["run", "--from", form, *some], text, deadline=deadline).decode().split()
+            for word, line in zip(some, found):
                 out = line[inputs:inputs + outputs]
                 if line != word[:inputs] + out + zeros[outputs:] + loan:
-                    raise RevcError("the circuit is not clean on %s" % self.source.assignment(word[:inputs]))
+                    raise RevcError(f"the circuit is not clean on {self.source.assignment(word[:inputs])}")
                 answers.append(self.source.value(out))
         return answers
 
-    def verify(self, text: Union["Source", str, None] = None, nodes: int = 1000000, by: str = "both") -> str:
+    def verify(self, text: Union[RevsText, str, None] = None, nodes: int = NODES, by: str = WAY,
+               timeout: Optional[float] = None) -> str:
         """Prove that the circuit computes a program, a text of Revs or another oracle, on every input."""
-        from .sources import Source
-        source = self.source if text is None else text if isinstance(text, Source) else Source(text)
-        return source.verify(self, nodes, by=by)
+        source = self.source if text is None else text if isinstance(text, RevsText) else RevsText(text)
+        return source.verify(self, nodes, by=by, timeout=timeout)
 
     # ---- Files
 
@@ -140,8 +97,8 @@ class Circuit:
         whatever that holds, under every plan but `compact`. `z` runs it, applies Z, and runs it backwards.
         """
         if self.source.outputs != 1:
-            raise RevcError("phase() is for one output bit, and `%s` has %d: return a comparison, or .all()"
-                            % (self.source.name, self.source.outputs))
+            raise RevcError(f"phase() is for one output bit, and `{self.source.name}` has {self.source.outputs}: return a "
+                            "comparison, or .all()")
         lines = self.qasm.strip().split("\n")
         first = next((i for i, line in enumerate(lines) if line.startswith(("x ", "cx ", "ccx "))), len(lines))
         head, gates = lines[:first], lines[first:]
@@ -153,20 +110,31 @@ class Circuit:
         elif form == "z":
             body = gates + ["z outp[0];"] + gates[::-1]
         else:
-            raise RevcError("no form `%s` of a phase: kickback, z" % form)
+            raise RevcError(f"no form `{form}` of a phase: kickback, z")
         return "\n".join(head + body) + "\n"
 
-    def draw(self, path: Optional[str] = None, columns: int = 60) -> str:
-        """The circuit as SVG, with the author's names, in rows of so many columns; written to a file where one is named."""
-        from .drawing import Drawing, circuit_of
-        picture = Drawing(circuit_of(self.real), self.source.line_names(), columns).svg()
-        if path:
-            Path(path).write_text(picture)
-        return picture
+    @overload
+    def draw(self, path: str, columns: int = COLUMNS) -> None: ...
+
+    @overload
+    def draw(self, path: None = None, columns: int = COLUMNS) -> Picture: ...
+
+    def draw(self, path: Optional[str] = None, columns: int = COLUMNS) -> Optional[Picture]:
+        """The circuit as SVG, with the author's names, in rows of so many columns; or it is written to the file `path`."""
+        picture = Drawing(self.gate_list, self.source.line_names(), columns).svg()
+        return picture.write(path) if path else picture
+
+    def _repr_svg_(self) -> Optional[str]:
+        """What a notebook shows of a small circuit."""
+        return self.draw() if len(self.gates) <= SHOWN else None
+
+    def _repr_html_(self) -> Optional[str]:
+        """What a notebook shows of a circuit that is too large for a picture: its cost."""
+        return self.cost._repr_html_() if len(self.gates) > SHOWN else None
 
     def save(self, path: str) -> None:
         """Write the file: `.real`, `.qasm` or `.svg` by its name."""
         kind = Path(path).suffix
         if kind not in (".real", ".qasm", ".svg"):
-            raise RevcError("%s: a circuit is written as .real, .qasm or .svg" % path)
+            raise RevcError(f"{path}: a circuit is written as .real, .qasm or .svg")
         Path(path).write_text(self.real if kind == ".real" else self.qasm if kind == ".qasm" else self.draw())

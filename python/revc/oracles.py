@@ -1,7 +1,7 @@
 """Functions of Python as programs of Revs."""
 import functools
 import inspect
-from typing import Any, Callable, Dict, List
+from typing import Any, Callable, Dict, List, Tuple
 
 from . import trace
 from .errors import RevcError, WidthError
@@ -28,8 +28,8 @@ class Oracle(Source):
             params, known = parameters(func, program)
             flat, self.shape = flatten(func(**{str(each.hint): Bits(each) for each in params}, **known), title)
             if sum(each.width for each in flat) > MOST:
-                raise WidthError("`%s` returns %d bits: a circuit has at most 1,024 outputs"
-                                 % (title, sum(each.width for each in flat)))
+                raise WidthError(f"`{title}` returns {sum(each.width for each in flat)} bits: a circuit has at most 1,024 "
+                                 "outputs")
             lines = program.finish(params, [each.node for each in flat])
         finally:
             trace.programs.pop()
@@ -47,26 +47,26 @@ class Oracle(Source):
         return unflatten(self.shape, numbers)
 
 
-def parameters(func: Callable[..., Any], program: Program) -> Any:
+def parameters(func: Callable[..., Any], program: Program) -> Tuple[List[Node], Dict[str, Any]]:
     """The parameters with a width, as nodes, and the values of the others, which are known now."""
     title, notes = func.__name__, widths(func)
     nodes: List[Node] = []
     known: Dict[str, Any] = {}
     for name, each in inspect.signature(func).parameters.items():
         if each.kind in (each.VAR_POSITIONAL, each.VAR_KEYWORD):
-            raise RevcError("`*%s` of `%s`: a circuit has a fixed number of inputs" % (name, title))
+            raise RevcError(f"`*{name}` of `{title}`: a circuit has a fixed number of inputs")
         if name not in notes and each.default is not each.empty:
             known[name] = each.default
         elif name not in notes:
-            raise RevcError("`%s` of `%s` has no width: write %s: Bits[8]" % (name, title, name))
+            raise RevcError(f"`{name}` of `{title}` has no width: write {name}: Bits[8]")
         else:
             nodes.append(program.scope.parameter(name, notes[name]))
             program.scope.name_of(nodes[-1])
     if not nodes:
-        raise RevcError("`%s` has no parameter: a circuit has at least one input, as a: Bits[8]" % title)
+        raise RevcError(f"`{title}` has no parameter: a circuit has at least one input, as a: Bits[8]")
     if sum(each.width for each in nodes) > MOST:
-        raise WidthError("the parameters of `%s` have %d bits: a circuit has at most 1,024 inputs"
-                         % (title, sum(each.width for each in nodes)))
+        raise WidthError(f"the parameters of `{title}` have {sum(each.width for each in nodes)} bits: a circuit has at most "
+                         "1,024 inputs")
     return nodes, known
 
 

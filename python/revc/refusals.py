@@ -6,7 +6,7 @@ from . import program
 from .errors import Refused
 
 if TYPE_CHECKING:
-    from .sources import Source
+    from .revs import RevsText
 
 KINDS = {
     "BadByte": "no token begins with this byte: AND is `&&`, XOR is `<>`, NOT of a is `true <> a`, OR is "
@@ -65,7 +65,7 @@ ANSWERS = [  # the program's other messages
 ]
 
 
-def explain(message: str, status: int, source: Optional["Source"] = None, circuit: str = "") -> str:
+def explain(message: str, status: int, source: Optional["RevsText"] = None, circuit: str = "") -> str:
     """The program's message, the place that it names, what it means and what helps.
 
     `source` is the program and `circuit` the text of the circuit that the message may be about.
@@ -84,10 +84,10 @@ def explain(message: str, status: int, source: Optional["Source"] = None, circui
             lines.append(INSTEAD.get(word, KINDS[kind]) if kind in ("Unbound", "NotFunction") else KINDS[kind])
     fails = re.search(r"fails on ([01]+)", message)
     if source and fails:
-        lines.append("the claim does not hold on %s, the least input that breaks it" % source.assignment(fails[1]))
+        lines.append(f"the claim does not hold on {source.assignment(fails[1])}, the least input that breaks it")
     differs = re.search(r"differs at line (\d+) on ([01]+)", message)
     if source and differs:
-        lines.append("%s ends with the wrong bit on %s" % (source.role(int(differs[1])), source.assignment(differs[2])))
+        lines.append(f"{source.role(int(differs[1]))} ends with the wrong bit on {source.assignment(differs[2])}")
     for pattern, means in ANSWERS:
         found = re.search(pattern, message)
         if found:
@@ -104,7 +104,7 @@ def bad_circuit(message: str, circuit: str) -> List[str]:
             "`.real`, whose gates are tN and fN with N different lines of `.variables`")
     means = "this passes a limit of the format" if message.endswith("over a limit") else "no file has this here"
     return pointed(circuit, int(place[1] or place[2]), int(place[3] or 1)) + [
-        "%s: the file is read as %s (docs/FORMATS.md)" % (means, form)]
+        f"{means}: the file is read as {form} (docs/FORMATS.md)"]
 
 
 # ---- Places
@@ -118,7 +118,7 @@ def pointed(text: str, row: int, column: int) -> List[str]:
     return ["    " + line[cut:cut + 100].rstrip(), "    " + " " * (column - 1 - cut) + "^"]
 
 
-def written_by(source: "Source", row: int) -> List[str]:
+def written_by(source: "RevsText", row: int) -> List[str]:
     place = source.places[row - 1] if row <= len(source.places) else None
     if not place:
         return []
@@ -127,7 +127,7 @@ def written_by(source: "Source", row: int) -> List[str]:
             code = file.read().split("\n")[place[1] - 1].strip()
     except OSError:
         code = ""
-    return ["written by %s:%d: %s" % (place[0], place[1], code)]
+    return [f"written by {place[0]}:{place[1]}: {code}"]
 
 
 def offset(text: str, row: int, column: int) -> int:
@@ -142,20 +142,21 @@ def token(text: str, row: int, column: int) -> str:
 # ---- What helps against a token that cannot stand where it stands
 
 
-def syntax(source: "Source", row: int, column: int, word: str) -> str:
+def syntax(source: "RevsText", row: int, column: int, word: str) -> str:
     text, at = source.text, offset(source.text, row, column)
     if word == "for" and not re.match(r"\s*revs\s", text):
         return "a text with loops begins with `revs 2`"
     if word in INSTEAD:
-        return "no program has `%s` here: %s" % (word, INSTEAD[word])
+        return f"no program has `{word}` here: {INSTEAD[word]}"
     for place in endings(text, at):
         message = refusal_of(text[:place] + ";" + text[place:])
         found = re.match(r"revc: (\d+):(\d+) (\w+)", message)
         if not found or found[3] not in ("Syntax",) or offset(text, int(found[1]), int(found[2])) > at + 1:
             line = text[:place].count("\n") + 1
-            return "a `;` is missing behind `%s` in line %d" % (text[:place].split("\n")[-1].strip()[-40:], line)
-    what = "the text may not end" if not word else "no program has `%s`" % word
-    return "%s here: an item of a block ends with `;`, a block with `}`, and its last expression is its value" % what
+            before = text[:place].split("\n")[-1].strip()[-40:]
+            return f"a `;` is missing behind `{before}` in line {line}"
+    what = "the text may not end" if not word else f"no program has `{word}`"
+    return f"{what} here: an item of a block ends with `;`, a block with `}}`, and its last expression is its value"
 
 
 def endings(text: str, at: int) -> Iterator[int]:

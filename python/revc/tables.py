@@ -10,7 +10,7 @@ import random
 from typing import Dict, List, Optional, Sequence, Tuple
 
 from .arithmetic import library
-from .errors import RevcError, WidthError
+from .errors import KnownLater, WidthError
 from .operations import Cat, Const, of_bits, said
 from .trace import current, one_name
 from .values import Bits
@@ -115,13 +115,12 @@ def table(x: Bits, values: Sequence[int], width: Optional[int] = None) -> Bits:
     """The entry of `values`, a list of 2^n numbers, that x says; of `width` bits, or as many as the greatest needs."""
     k, values = x.width, list(values)
     if len(values) != 1 << k:
-        raise WidthError("table(%s, ..): %d entries, and a number of %d bits chooses among %d"
-                         % (said(x), len(values), k, 1 << k))
+        raise WidthError(f"table({said(x)}, ..): {len(values)} entries, and a number of {k} bits chooses among {1 << k}")
     if not all(isinstance(value, int) for value in values):
-        raise RevcError("table(%s, ..): entries are numbers that are known now; of others make a Switch" % said(x))
+        raise KnownLater(f"table({said(x)}, ..): entries are numbers that are known now; of others make a Switch")
     m = width or max(max(values).bit_length(), 1)
     if min(values) < 0 or max(values) >> m:
-        raise WidthError("table: %d does not fit in %d bits" % (min(values) if min(values) < 0 else max(values), m))
+        raise WidthError(f"table: {min(values) if min(values) < 0 else max(values)} does not fit in {m} bits")
     key = ("table", k, m, tuple(values))
     if key in current().library:
         return library("", [x], lambda x: x, key)
@@ -136,7 +135,7 @@ def table(x: Bits, values: Sequence[int], width: Optional[int] = None) -> Bits:
     def body(x: Bits) -> Bits:
         variables = [added([x[j] for j in range(k) if row >> j & 1]) for row in matrix]
         return Cat(*computed(variables, columns(values, m, k, matrix), best[1], k))
-    return library("table%d_%d" % (k, m), [x], body, key)
+    return library(f"table{k}_{m}", [x], body, key)
 
 
 def added(terms: List[Bits]) -> Bits:
@@ -168,5 +167,5 @@ def computed(x: List[Bits], fs: List[int], order: List[int], k: int) -> List[Bit
         todo = [(b << (1 << i), express(b)) for b in factors]
         learn(1 << (1 << i), x[i])
         for f, value in todo:
-            learn(f, of_bits("and", x[i], value).named("p%d" % len(values)))
+            learn(f, of_bits("and", x[i], value).named(f"p{len(values)}"))
     return [express(f) for f in fs]

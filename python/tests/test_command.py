@@ -26,7 +26,7 @@ class Command(unittest.TestCase):
 
     def run_in(self, words: str, text: str = "") -> Tuple[int, str, str]:
         space = dict(os.environ, PYTHONPATH=str(PACKAGE), PYTHONDONTWRITEBYTECODE="1", EXAMPLES=str(EXAMPLES))
-        done = subprocess.run("%s -m revc %s" % (sys.executable, words), shell=True, cwd=self.folder, env=space,
+        done = subprocess.run(f"{sys.executable} -m revc {words}", shell=True, cwd=self.folder, env=space,
                               input=text.encode(), stdout=subprocess.PIPE, stderr=subprocess.PIPE)
         return done.returncode, done.stdout.decode(), done.stderr.decode()
 
@@ -58,7 +58,7 @@ class Command(unittest.TestCase):
         self.gives("check alu.revs", "claims 0")
         self.gives("run alu.py op=1 a=3 b=5", "out=14")
         self.gives("run alu.revs op=0 a=3 b=0x5", "out=8")
-        self.gives("run alu.real %s" % ("0" * 30), "0" * 30)
+        self.gives(f"run alu.real {'0' * 30}", "0" * 30)
         self.gives("draw alu.real -o alu.svg", "")
         self.gives("draw alu.py --columns 20", "<svg")
         self.gives("costs alu.py --plan lean --points 1 -o alu.svg", "Toffoli")

@@ -1,0 +1,181 @@
+"""What each command of `python3 -m revc` does, and the words that it takes."""
+import argparse
+import sys
+from typing import Any, Callable, Dict, NoReturn
+
+from .circuits import COLUMNS, Circuit
+from .costs import BY, COUNTS
+from .defaults import DEFAULTS
+from .drawing import Drawing
+from .errors import RevcError
+from .files import circuit_text, format_of, is_circuit, numbers, on_circuit, source_of, write
+from .real import form_of, read_real
+
+
+def compiled(options: argparse.Namespace) -> Circuit:
+    source = source_of(options.program)
+    return source.compile(options.plan, options.lines, options.gates, options.borrow, options.nodes)
+
+
+def do_compile(options: argparse.Namespace) -> None:
+    if options.output and options.output.endswith(".svg"):
+        raise RevcError(f"{options.output}: `draw` makes pictures")
+    form = format_of(options.output, options.format or "real")
+    circuit = compiled(options)
+    write(circuit.qasm if form == "qasm" else circuit.real, options.output)
+    sys.stderr.write(str(circuit.cost) + "\n")
+
+
+def do_costs(options: argparse.Namespace) -> None:
+    tables = [source_of(each).costs(options.plan or None, options.points, options.by) for each in options.programs]
+    for table in tables:
+        print((f"{table.name}\n" if len(tables) > 1 else "") + str(table))
+    if options.output:
+        tables[0].draw(options.output, *tables[1:])
+
+
+def do_check(options: argparse.Namespace) -> None:
+    print(f"claims {source_of(options.program).check(options.nodes)}")
+
+
+def do_run(options: argparse.Namespace) -> None:
+    if is_circuit(options.program):
+        sys.stdout.write(on_circuit(["run", *options.numbers], circuit_text(options.program)))
+        return
+    answer: Any = source_of(options.program)(**numbers(options.numbers))
+    rows = answer if isinstance(answer, dict) else {"out": answer}
+    print("\n".join(f"{name}={value}" for name, value in rows.items()))
+
+
+def do_stat(options: argparse.Namespace) -> None:
+    sys.stdout.write(on_circuit(["stat"], circuit_text(options.circuit)))
+
+
+def do_verify(options: argparse.Namespace) -> None:
+    source = source_of(options.program)
+    print(source.verify(circuit_text(options.circuit), options.nodes, options.borrow, options.by))
+
+
+def do_convert(options: argparse.Namespace) -> None:
+    form = format_of(options.output, options.format or "qasm")
+    write(on_circuit([options.command, "--to", form], circuit_text(options.circuit)), options.output)
+
+
+def do_draw(options: argparse.Namespace) -> None:
+    if is_circuit(options.file):
+        text = circuit_text(options.file)
+        if form_of(text) == "qasm":
+            text = on_circuit(["convert", "--to", "real"], text)
+        write(Drawing(read_real(text), columns=options.columns).svg(), options.output)
+    else:
+        write(source_of(options.file).compile(options.plan, options.lines).draw(columns=options.columns), options.output)
+
+
+def do_phase(options: argparse.Namespace) -> None:
+    write(compiled(options).phase(options.form), options.output)
+
+
+def do_text(options: argparse.Namespace) -> None:
+    write(source_of(options.program).text, options.output)
+
+
+# ---- Words
+
+
+class Parser(argparse.ArgumentParser):
+    """Says what was wrong in the words, and which help says more."""
+    commands: Dict[str, "Parser"] = {}
+
+    def error(self, message: str) -> NoReturn:
+        sys.stderr.write(f"{self.prog}: {message}\n{self.prog} --help says what it takes\n")
+        sys.exit(2)
+
+    def option(self, name: str) -> None:
+        """An option of the table of defaults."""
+        about = DEFAULTS[name]
+        kind = int if isinstance(about.usual, int) else str
+        self.add_argument("--" + name, type=kind, default=about.usual, metavar=name[0].upper(),
+                          help=f"{about.says}: {about.range} ({about.usual})")
+
+    def options(self, *names: str) -> None:
+        for name in names:
+            self.option(name)
+
+    def output(self, what: str) -> None:
+        self.add_argument("-o", "--output", help=what + "; standard output where none is named")
+
+    def form(self) -> None:
+        self.add_argument("--format", choices=["real", "qasm"], help="of standard output; a file's name says it")
+        self.output("the .real or .qasm file")
+
+
+Command = Callable[[argparse.Namespace], None]
+Taking = Callable[[Parser], None]
+
+
+def takes_compile(one: Parser) -> None:
+    one.options("plan", "lines", "gates", "borrow", "nodes")
+    one.form()
+
+
+def takes_costs(one: Parser) -> None:
+    one.add_argument("programs", nargs="+", metavar="program")
+    one.add_argument("--plan", action="append", help="this plan alone (may be repeated)")
+    one.add_argument("--points", type=int, default=6, help="circuits between the least lines and the most (6)")
+    one.add_argument("--by", choices=list(COUNTS), default=BY, help=f"the count that comes first ({BY})")
+    one.add_argument("-o", "--output", help="a picture of it, .svg")
+
+
+def takes_numbers(one: Parser) -> None:
+    one.add_argument("numbers", nargs="+", metavar="NAME=NUMBER or BITS")
+
+
+def takes_draw(one: Parser) -> None:
+    one.options("plan", "lines")
+    one.add_argument("--columns", type=int, default=COLUMNS,
+                     help=f"gates side by side, then it goes on below ({COLUMNS})")
+    one.output("the .svg file")
+
+
+def takes_phase(one: Parser) -> None:
+    one.options("plan", "lines", "gates", "borrow", "nodes")
+    one.add_argument("--form", choices=["kickback", "z"], default="kickback", help="run it once, or twice around a Z")
+    one.output("the .qasm file")
+
+
+def takes_nothing(one: Parser) -> None:
+    pass
+
+
+# Each command: its name, what does it, what is said of it, its files, and its options.
+COMMANDS: "list[tuple[str, Command, str, tuple[str, ...], Taking]]" = [
+    ("compile", do_compile, "write the clean circuit of a program, and say what it costs", ("program",), takes_compile),
+    ("costs", do_costs, "show what all can be had: plans, and lines from the least that fits up", (), takes_costs),
+    ("check", do_check, "prove the claims of a program for all inputs", ("program",), lambda one: one.option("nodes")),
+    ("run", do_run, "run a program on numbers (a=3 b=5), or a circuit on bits", ("program",), takes_numbers),
+    ("stat", do_stat, "count lines, gates and depth of a circuit", ("circuit",), takes_nothing),
+    ("verify", do_verify, "prove that a circuit computes a program on every input", ("program", "circuit"),
+     lambda one: one.options("nodes", "borrow", "by")),
+    ("convert", do_convert, "write a circuit by X, CX and CCX gates alone", ("circuit",), Parser.form),
+    ("tidy", do_convert, "the same with gates taken out that cancel, and short runs of CX gates", ("circuit",), Parser.form),
+    ("draw", do_draw, "draw a program's circuit, or a circuit's file, as SVG", ("file",), takes_draw),
+    ("phase", do_phase, "write OpenQASM that flips the sign where the output is 1", ("program",), takes_phase),
+    ("text", do_text, "write the text of Revs that a file of Python stands for", ("program",),
+     lambda one: one.output("the .revs file")),
+]
+
+
+def parser(about: str) -> Parser:
+    """The parser of all words. `about` is what is said of the whole, in two paragraphs."""
+    description, more, *_ = about.split("\n\n")
+    top = Parser(prog="revc", description=description, epilog=more, formatter_class=argparse.RawDescriptionHelpFormatter)
+    top.add_argument("--version", action="store_true", help="say which package this is, and which program it calls")
+    commands = top.add_subparsers(dest="command", metavar="COMMAND", parser_class=Parser)
+    top.commands = commands.choices
+    for name, does, help_, files, taking in COMMANDS:
+        one = commands.add_parser(name, help=help_, description=help_[0].upper() + help_[1:] + ".")
+        one.set_defaults(does=does)
+        for file in files:
+            one.add_argument(file)
+        taking(one)
+    return top
