@@ -111,6 +111,8 @@ def best_circuit(source: RevsText, by: str, most: Dict[str, int], plans: Optiona
                 best = circuit
         elif near is None or ordered(circuit.cost, by) < ordered(near, by):
             near = circuit.cost
+    if best is None and near is None and search.is_late:
+        raise TimedOut(f"no circuit of `{source.name}` within {timeout} seconds (timeout)")
     if best is None:
         wanted = ", ".join(f"{name}={limit}" for name, limit in most.items())
         late = ", as far as was tried before the timeout" if search.is_late else ""

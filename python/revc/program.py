@@ -100,12 +100,12 @@ def call(words: Sequence[str], text: bytes = b"", explain: Optional[Callable[[st
     """What the program writes for these words and this text. A refusal is raised, with what `explain` adds to it."""
     where, begun = program(), time.monotonic()
     err = None if where == script() else subprocess.PIPE  # a build shows how far it is
+    left = deadline.left() if deadline else None
     try:
-        done = subprocess.run([where, *words], input=text, stdout=subprocess.PIPE, stderr=err,
-                              timeout=deadline.left() if deadline else None)
-    except subprocess.TimeoutExpired:
-        raise TimedOut(f"`revc {words[0]}` was not done within {deadline.seconds:g} seconds (timeout)"
-                       if deadline else "timeout") from None
+        done = subprocess.run([where, *words], input=text, stdout=subprocess.PIPE, stderr=err, timeout=left)
+    except subprocess.TimeoutExpired as late:
+        seconds = deadline.seconds if deadline else late.timeout
+        raise TimedOut(f"`revc {words[0]}` was not done within {seconds:g} seconds (timeout)") from None
     except OSError as error:
         raise RevcError(f"{where} does not run: {error}") from None
     LOG.debug("%s: status %d, %d bytes, %.2f s", " ".join(words[:8]), done.returncode, len(done.stdout),
