@@ -13,7 +13,7 @@ from .real import GateList, read_real
 from .revs import RevsText
 
 WORDS = 100000  # letters of input words that one call of `run` gets
-SHOWN = 1500  # gates up to which a notebook shows the picture of a circuit
+SHOWN_GATES, SHOWN_LINES = 1500, 200  # up to which a notebook shows the picture of a circuit
 COLUMNS = 60  # gates side by side in a picture, then it goes on below
 
 
@@ -124,13 +124,18 @@ class Circuit:
         picture = Drawing(self.gate_list, self.source.line_names(), columns).svg()
         return picture.write(path) if path else picture
 
+    @property
+    def is_shown(self) -> bool:
+        """Whether a picture of it is of use, and not too large for a notebook."""
+        return len(self.gates) <= SHOWN_GATES and self.lines <= SHOWN_LINES
+
     def _repr_svg_(self) -> Optional[str]:
         """What a notebook shows of a small circuit."""
-        return self.draw() if len(self.gates) <= SHOWN else None
+        return self.draw() if self.is_shown else None
 
     def _repr_html_(self) -> Optional[str]:
         """What a notebook shows of a circuit that is too large for a picture: its cost."""
-        return self.cost._repr_html_() if len(self.gates) > SHOWN else None
+        return None if self.is_shown else self.cost._repr_html_()
 
     def save(self, path: str) -> None:
         """Write the file: `.real`, `.qasm` or `.svg` by its name."""

@@ -1,7 +1,7 @@
 """What each command of `python3 -m revc` does, and the words that it takes."""
 import argparse
 import sys
-from typing import Any, Callable, Dict, NoReturn
+from typing import Any, Callable, Dict, List, NoReturn, Tuple
 
 from .circuits import COLUMNS, Circuit
 from .costs import BY, COUNTS
@@ -14,7 +14,7 @@ from .real import form_of, read_real
 
 def compiled(options: argparse.Namespace) -> Circuit:
     source = source_of(options.program)
-    return source.compile(options.plan, options.lines, options.gates, options.borrow, options.nodes)
+    return source.compile(options.plan, options.lines, options.gates, options.borrow, options.nodes, options.timeout)
 
 
 def do_compile(options: argparse.Namespace) -> None:
@@ -27,7 +27,8 @@ def do_compile(options: argparse.Namespace) -> None:
 
 
 def do_costs(options: argparse.Namespace) -> None:
-    tables = [source_of(each).costs(options.plan or None, options.points, options.by) for each in options.programs]
+    tables = [source_of(each).costs(options.plan or None, options.points, options.by, timeout=options.timeout)
+              for each in options.programs]
     for table in tables:
         print((f"{table.name}\n" if len(tables) > 1 else "") + str(table))
     if options.output:
@@ -35,7 +36,7 @@ def do_costs(options: argparse.Namespace) -> None:
 
 
 def do_check(options: argparse.Namespace) -> None:
-    print(f"claims {source_of(options.program).check(options.nodes)}")
+    print(f"claims {source_of(options.program).check(options.nodes, options.timeout)}")
 
 
 def do_run(options: argparse.Namespace) -> None:
@@ -53,7 +54,7 @@ def do_stat(options: argparse.Namespace) -> None:
 
 def do_verify(options: argparse.Namespace) -> None:
     source = source_of(options.program)
-    print(source.verify(circuit_text(options.circuit), options.nodes, options.borrow, options.by))
+    print(source.verify(circuit_text(options.circuit), options.nodes, options.borrow, options.by, options.timeout))
 
 
 def do_convert(options: argparse.Namespace) -> None:
@@ -101,6 +102,9 @@ class Parser(argparse.ArgumentParser):
         for name in names:
             self.option(name)
 
+    def timeout(self) -> None:
+        self.add_argument("--timeout", type=float, metavar="S", help="give up after so many seconds")
+
     def output(self, what: str) -> None:
         self.add_argument("-o", "--output", help=what + "; standard output where none is named")
 
@@ -115,6 +119,7 @@ Taking = Callable[[Parser], None]
 
 def takes_compile(one: Parser) -> None:
     one.options("plan", "lines", "gates", "borrow", "nodes")
+    one.timeout()
     one.form()
 
 
@@ -123,7 +128,18 @@ def takes_costs(one: Parser) -> None:
     one.add_argument("--plan", action="append", help="this plan alone (may be repeated)")
     one.add_argument("--points", type=int, default=6, help="circuits between the least lines and the most (6)")
     one.add_argument("--by", choices=list(COUNTS), default=BY, help=f"the count that comes first ({BY})")
+    one.timeout()
     one.add_argument("-o", "--output", help="a picture of it, .svg")
+
+
+def takes_check(one: Parser) -> None:
+    one.option("nodes")
+    one.timeout()
+
+
+def takes_verify(one: Parser) -> None:
+    one.options("nodes", "borrow", "by")
+    one.timeout()
 
 
 def takes_numbers(one: Parser) -> None:
@@ -139,6 +155,7 @@ def takes_draw(one: Parser) -> None:
 
 def takes_phase(one: Parser) -> None:
     one.options("plan", "lines", "gates", "borrow", "nodes")
+    one.timeout()
     one.add_argument("--form", choices=["kickback", "z"], default="kickback", help="run it once, or twice around a Z")
     one.output("the .qasm file")
 
@@ -148,14 +165,14 @@ def takes_nothing(one: Parser) -> None:
 
 
 # Each command: its name, what does it, what is said of it, its files, and its options.
-COMMANDS: "list[tuple[str, Command, str, tuple[str, ...], Taking]]" = [
+COMMANDS: List[Tuple[str, Command, str, Tuple[str, ...], Taking]] = [
     ("compile", do_compile, "write the clean circuit of a program, and say what it costs", ("program",), takes_compile),
     ("costs", do_costs, "show what all can be had: plans, and lines from the least that fits up", (), takes_costs),
-    ("check", do_check, "prove the claims of a program for all inputs", ("program",), lambda one: one.option("nodes")),
+    ("check", do_check, "prove the claims of a program for all inputs", ("program",), takes_check),
     ("run", do_run, "run a program on numbers (a=3 b=5), or a circuit on bits", ("program",), takes_numbers),
     ("stat", do_stat, "count lines, gates and depth of a circuit", ("circuit",), takes_nothing),
     ("verify", do_verify, "prove that a circuit computes a program on every input", ("program", "circuit"),
-     lambda one: one.options("nodes", "borrow", "by")),
+     takes_verify),
     ("convert", do_convert, "write a circuit by X, CX and CCX gates alone", ("circuit",), Parser.form),
     ("tidy", do_convert, "the same with gates taken out that cancel, and short runs of CX gates", ("circuit",), Parser.form),
     ("draw", do_draw, "draw a program's circuit, or a circuit's file, as SVG", ("file",), takes_draw),

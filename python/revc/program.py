@@ -12,7 +12,8 @@ from .errors import Refused, RevcError, TimedOut, refused
 
 HERE = Path(__file__).resolve().parent.parent.parent  # the repository, where the package stands in one
 USAGE = 2  # the status of words that the program does not take
-LOG = logging.getLogger("revc")
+LOG = logging.getLogger("revc")  # calls at level DEBUG, the steps of searches at INFO
+LOG.addHandler(logging.NullHandler())
 
 _plans: Dict[str, List[str]] = {}
 
@@ -108,7 +109,7 @@ def call(words: Sequence[str], text: bytes = b"", explain: Optional[Callable[[st
         raise TimedOut(f"`revc {words[0]}` was not done within {seconds:g} seconds (timeout)") from None
     except OSError as error:
         raise RevcError(f"{where} does not run: {error}") from None
-    LOG.debug("%s: status %d, %d bytes, %.2f s", " ".join(words[:8]), done.returncode, len(done.stdout),
+    LOG.debug("%.120s: status %d, %d bytes, %.2f s", " ".join(words), done.returncode, len(done.stdout),
               time.monotonic() - begun)
     if done.returncode:
         message = (done.stderr or b"").decode(errors="replace").strip()
