@@ -70,7 +70,7 @@ def is_circuit(path: str) -> bool:
 def on_circuit(words: List[str], text: str) -> str:
     """What the program writes for a circuit's file."""
     done = program.call(words + ["--from", form_of(text)], text.encode(),
-                        lambda message, status: refusals.explain(message, status, None, text))
+                        lambda message, status: refusals.explain(message, status, None, text, words))
     return done.decode()
 
 

@@ -1,6 +1,10 @@
 """Functions of Python as programs of Revs."""
 import functools
 import inspect
+import os
+import re
+import traceback
+from collections import Counter
 from typing import Any, Callable, Dict, List, Tuple
 
 from . import trace
@@ -10,6 +14,7 @@ from .sources import Source
 from .trace import Node, Program
 from .values import Bits
 
+PACKAGE = os.path.dirname(os.path.abspath(__file__))
 MOST = 1024  # bits of all parameters, and of all results
 
 
@@ -26,7 +31,7 @@ class Oracle(Source):
         trace.programs.append(program)
         try:
             params, known = parameters(func, program)
-            flat, self.shape = flatten(func(**{str(each.hint): Bits(each) for each in params}, **known), title)
+            flat, self.shape = flatten(traced(func, {str(each.hint): Bits(each) for each in params}, known), title)
             if sum(each.width for each in flat) > MOST:
                 raise WidthError(f"`{title}` returns {sum(each.width for each in flat)} bits: a circuit has at most 1,024 "
                                  "outputs")
@@ -45,6 +50,30 @@ class Oracle(Source):
 
     def shaped(self, numbers: List[int]) -> Any:
         return unflatten(self.shape, numbers)
+
+
+def traced(func: Callable[..., Any], values: Dict[str, Bits], known: Dict[str, Any]) -> Any:
+    """What a function returns on these values. One that calls itself without end, or by its oracle's name, is refused."""
+    title = func.__name__
+    try:
+        return func(**values, **known)
+    except RecursionError as error:
+        raise RevcError(f"{endless(error)}: the trace runs both sides of each choice by a value, so that what ends it has "
+                        "to be known now: count the steps, f(x, n - 1) until n == 0, or write a loop") from None
+    except NameError as error:
+        if re.search(rf"'{re.escape(title)}'", str(error)):
+            raise RevcError(f"`{title}` calls itself, and is no circuit before it is traced: write its steps as a loop, or "
+                            "as a function beside it, whose calls end by a number that is known now") from None
+        raise
+
+
+def endless(error: RecursionError) -> str:
+    """Which function of the author's calls itself without end, and where."""
+    frames = [each for each in traceback.extract_tb(error.__traceback__) if os.path.dirname(each.filename) != PACKAGE]
+    if not frames:
+        return "a function calls itself without end"
+    (file, line, name, code), _ = Counter(map(tuple, frames)).most_common(1)[0]
+    return f"`{name}` calls itself without end ({file}:{line}: {code})"
 
 
 def parameters(func: Callable[..., Any], program: Program) -> Tuple[List[Node], Dict[str, Any]]:

@@ -107,7 +107,7 @@ class RevsText:
         """What the program writes for the text, and for a circuit behind it."""
         text = self.text + ("" if self.text.endswith("\n") else "\n") + "---\n" + circuit if circuit else self.text
         return program.call(words, text.encode(),
-                            lambda message, status: refusals.explain(message, status, self, circuit), deadline)
+                            lambda message, status: refusals.explain(message, status, self, circuit, words), deadline)
 
     def __call__(self, *args: int, **named: int) -> Any:
         """The result on numbers, by the run of the text itself."""

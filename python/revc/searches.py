@@ -109,11 +109,12 @@ def gates_that_fit(source: RevsText, plan: str, lines: int, borrow: int) -> str:
     for each in [plan] + [other for other in all_plans() if other != plan]:
         enough = None if search.is_late else least_gates(search, each, lines, borrow)
         if enough:
-            found.append(f"{enough:,} under `{each}`" if found else f"{enough:,} gates under `{each}`")
+            found.append((each != plan, enough, each))
     if not found:
         return (f"no plan was found to do with {GATES:,} gates, the most there are, on {lines:,} lines: give more lines, or "
                 "make several programs of it")
-    return f"it takes {', '.join(found)}: give as many (gates, --gates)"
+    enough = ", ".join(f"{count:,} under `{each}`" for _, count, each in sorted(found))
+    return f"gates that are enough on {lines:,} lines: {enough}: give as many (gates, --gates)"
 
 
 def least_gates(search: Search, plan: str, lines: int, borrow: int) -> Optional[int]:

@@ -11,7 +11,7 @@ from typing import Dict, List, Optional, Sequence, Tuple
 
 from .arithmetic import library
 from .errors import KnownLater, WidthError
-from .operations import Cat, Const, of_bits, said
+from .operations import Cat, Const, of_bits, said, spelled
 from .trace import current, one_name
 from .values import Bits
 
@@ -115,7 +115,7 @@ def table(x: Bits, values: Sequence[int], width: Optional[int] = None) -> Bits:
     """The entry of `values`, a list of 2^n numbers, that x says; of `width` bits, or as many as the greatest needs."""
     k, values = x.width, list(values)
     if len(values) != 1 << k:
-        raise WidthError(f"table({said(x)}, ..): {len(values)} entries, and a number of {k} bits chooses among {1 << k}")
+        raise WidthError(wrong_length(x, len(values)))
     if not all(isinstance(value, int) for value in values):
         raise KnownLater(f"table({said(x)}, ..): entries are numbers that are known now; of others make a Switch")
     m = width or max(max(values).bit_length(), 1)
@@ -136,6 +136,16 @@ def table(x: Bits, values: Sequence[int], width: Optional[int] = None) -> Bits:
         variables = [added([x[j] for j in range(k) if row >> j & 1]) for row in matrix]
         return Cat(*computed(variables, columns(values, m, k, matrix), best[1], k))
     return library(f"table{k}_{m}", [x], body, key)
+
+
+def wrong_length(x: Bits, entries: int) -> str:
+    """What is wrong with a table that has not an entry for each number of x, and what helps."""
+    wanted = 1 << x.width
+    says = f"table({said(x)}, ..): {entries} entries, and a number of {x.width} bits chooses among {wanted}: "
+    if entries > wanted:
+        return says + f"give it {(entries - 1).bit_length()} bits, widen({spelled(x)}, {(entries - 1).bit_length()})"
+    return says + (f"pad it, values + [0] * {wanted - entries}, or say what all others are, "
+                   f"Switch({spelled(x)}, {{.., None: 0}})")
 
 
 def added(terms: List[Bits]) -> Bits:
