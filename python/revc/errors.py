@@ -27,6 +27,14 @@ class KnownLater(KindError):
     """A value that is known only when the circuit runs, where Python wants to know it now."""
 
 
+class ReadError(RevcError, ValueError):
+    """A circuit's text that this package does not read: at this line and column, counted from 1."""
+
+    def __init__(self, explained: str, line: int, column: int):
+        super().__init__(explained)
+        self.line, self.column = line, column
+
+
 class TimedOut(RevcError, TimeoutError):
     """The `timeout` that the caller gave went by."""
 
