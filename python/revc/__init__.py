@@ -15,9 +15,11 @@ from .choices import Switch
 from .circuits import Circuit
 from .costs import Costs, Row
 from .counting import Cost
+from .equality import equal
 from .errors import (CircuitDiffers, CircuitRefused, ClaimFails, GatesExceeded, KindError, KnownLater, LinesExceeded,
-                     NodesExceeded, OutOfMemory, PlaceError, Refused, RevcError, TextRefused, TimedOut, Unsettled, WidthError)
+                     NodesExceeded, OutOfMemory, PlaceError, ReadError, Refused, RevcError, TextRefused, TimedOut, Unsettled, WidthError)
 from .functions import clean, function, require
+from .netlists import Netlist, read
 from .operations import Mux, add, sub
 from .oracles import Oracle, oracle
 from .places import Cat, Const, widen
@@ -30,8 +32,8 @@ from .values import Bits
 
 __version__ = "1.1"
 __all__ = ["Bits", "Cat", "Circuit", "CircuitDiffers", "CircuitRefused", "ClaimFails", "Const", "Cost", "Costs",
-           "GatesExceeded", "KindError", "KnownLater", "LinesExceeded", "Mux", "NodesExceeded", "Oracle", "OutOfMemory",
-           "PlaceError", "Refused", "RevcError", "Row", "Source", "Step", "Switch", "TextRefused", "TimedOut", "Unsettled",
-           "WidthError", "add", "clean", "function", "load", "oracle", "popcount", "require", "sub", "table", "version",
+           "GatesExceeded", "KindError", "KnownLater", "LinesExceeded", "Mux", "Netlist", "NodesExceeded", "Oracle", "OutOfMemory",
+           "PlaceError", "ReadError", "Refused", "RevcError", "Row", "Source", "Step", "Switch", "TextRefused", "TimedOut", "Unsettled",
+           "WidthError", "add", "clean", "equal", "function", "load", "oracle", "popcount", "read", "require", "sub", "table", "version",
            "widen"]
 __all__ += types.__all__

@@ -1,7 +1,9 @@
 """The texts of circuits: `.real`, OpenQASM 2 and OpenQASM 3."""
 import re
+from pathlib import Path
 from typing import Dict, Iterator, List, Sequence, Tuple
 
+from .errors import RevcError
 from .gates import Gate
 from .line_names import registers
 
@@ -12,7 +14,15 @@ RESERVED = set(  # words and gates of OpenQASM, which no register may be called
     "case default break continue end ctrl negctrl inv pow pi tau euler U CX u0 u1 u2 u3 u p x y z h s sdg t tdg sx sxdg rx ry rz "
     "cx cy cz ch cp cu cu1 cu3 crx cry crz ccx ccz swap cswap c3x c4x mcx id phase cphase gphase rxx rzz rccx rc3x csx "
     "c3sqrtx sin cos tan exp ln sqrt".split())
-FORMS = ("real", "qasm", "qasm3")
+FILES = (".real", ".qasm", ".qasm3")  # endings of names
+
+
+def ending_of(path: str, endings: Sequence[str], what: str) -> str:
+    """The ending of a file's name, which has to be one of these."""
+    kind = Path(path).suffix
+    if kind not in endings:
+        raise RevcError(f"{path}: {what} as {', '.join(endings[:-1])}{' or ' * (len(endings) > 1)}{endings[-1]}")
+    return kind
 
 
 def qasm_name(name: str) -> str:

@@ -1,13 +1,20 @@
 """Clean circuits: their files, what they cost, and what they do on numbers."""
+import dataclasses
 import functools
+import math
 from pathlib import Path
 from typing import Any, Dict, List, Optional, Sequence, Union, overload
 
 from . import program
+from .circuit_texts import FILES, ending_of, qasm_text, real_text
 from .counting import Cost, cost_of
 from .defaults import NODES, WAY
 from .drawing import Drawing, Picture
 from .errors import RevcError
+from .line_names import lines_by_role
+from .maps import OUT, Lines
+from .netlists import HasNetlist, Netlist
+from .phases import FORMS, computed, kickback
 from .program import Deadline
 from .real import GateList, read_real
 from .revs import RevsText
@@ -20,8 +27,9 @@ COLUMNS = 60  # gates side by side in a picture, then it goes on below
 class Circuit:
     """A compiled circuit. `real` is its `.real` file; `print(circuit)` shows what it costs."""
 
-    def __init__(self, source: RevsText, real: bytes, words: Sequence[str], borrowed: int = 0):
-        self.source, self.real, self.words, self.borrowed = source, real.decode(), list(words), borrowed
+    def __init__(self, source: RevsText, real: bytes, words: Sequence[str], borrowed: int = 0, names: bool = False):
+        self.source, self.words, self.borrowed, self.has_names = source, list(words), borrowed, names
+        self.written = real.decode()  # by the program
 
     def __repr__(self) -> str:
         return f"<{self.source.name}: {self.cost}>"
@@ -31,8 +39,29 @@ class Circuit:
 
     @functools.cached_property
     def qasm(self) -> str:
-        """OpenQASM 2.0, with the registers `inp`, `outp`, `work` and `dirty`."""
+        """OpenQASM 2.0, with the registers `inp`, `outp`, `work` and `dirty`, or with `names` those of the parameters."""
+        if self.has_names:
+            return qasm_text(self.line_names, self.gate_list.gates)
         return self.source.ask(self.words + ["--format", "qasm"]).decode()
+
+    @property
+    def qasm3(self) -> str:
+        """OpenQASM 3, with the same registers."""
+        return qasm_text(self.line_names, self.gate_list.gates, 3)
+
+    @functools.cached_property
+    def real(self) -> str:
+        """The `.real` file, as the program wrote it, but for the names of the lines where these were asked for."""
+        if self.has_names:
+            return real_text(self.line_names, self.gate_list.gates, self.gate_list.marks, "-" * self.lines)
+        return self.written
+
+    @property
+    def line_names(self) -> List[str]:
+        """What the lines are called in OpenQASM."""
+        if self.has_names:
+            return list(self.netlist.names)
+        return lines_by_role([("inp", self.source.inputs)], [("outp", self.source.outputs)], self.cost.work, self.borrowed)
 
     @property
     def plan(self) -> str:
@@ -41,7 +70,7 @@ class Circuit:
     @functools.cached_property
     def gate_list(self) -> GateList:
         """The file as it is read: names and marks of the lines, and the gates."""
-        return read_real(self.real)
+        return read_real(self.written)
 
     @functools.cached_property
     def gates(self) -> List[List[int]]:
@@ -50,11 +79,37 @@ class Circuit:
 
     @property
     def lines(self) -> int:
-        return int(self.real.split(".numvars", 1)[1].split(None, 1)[0])
+        return int(self.written.split(".numvars", 1)[1].split(None, 1)[0])
 
     @functools.cached_property
     def cost(self) -> Cost:
         return cost_of(self.gates, self.source.inputs, self.source.outputs, self.borrowed, self.lines)
+
+    # ---- Circuits of circuits
+
+    @functools.cached_property
+    def netlist(self) -> Netlist:
+        """The circuit as a value, on registers that are called after the parameters and results, `work` and `dirty`."""
+        results = [(OUT, self.source.outputs)] if len(self.source.out) == 1 else self.source.out
+        names = lines_by_role(self.source.params, results, self.cost.work, self.borrowed)
+        return Netlist(tuple(names), tuple(self.gate_list.gates), self.gate_list.marks)
+
+    def inverse(self) -> Netlist:
+        """The circuit backwards: it takes the outputs off again."""
+        own = self.source.inputs + self.source.outputs
+        return dataclasses.replace(self.netlist.inverse(), marks="-" * own + self.netlist.marks[own:])
+
+    def controlled(self, count: int = 1, name: str = "control") -> Netlist:
+        """The circuit where `count` new lines in front are 1, as `Netlist.controlled`."""
+        return self.netlist.controlled(count, name)
+
+    def then(self, other: HasNetlist) -> Netlist:
+        """This circuit and then another one, on lines of the same names."""
+        return self.netlist.then(other)
+
+    def on(self, lines: Optional[Lines] = None, **named: str) -> Netlist:
+        """The same on lines of other names: on(a="q[0:4]", out="flag")."""
+        return self.netlist.on(lines, **named)
 
     # ---- Running
 
@@ -90,28 +145,30 @@ class Circuit:
 
     # ---- Files
 
-    def phase(self, form: str = "kickback") -> str:
-        """OpenQASM that flips the sign of the inputs on which the output is 1, as Grover's search wants it.
+    def phase(self, form: Optional[str] = None, weights: Optional[Sequence[float]] = None, version: int = 2) -> str:
+        """OpenQASM that turns the phase of inputs by their output; by the sign where it is 1, as Grover's search wants it.
 
-        `kickback` runs the circuit once, with the output line in the state minus: it XORs the output into that line,
-        whatever that holds, under every plan but `compact`. `z` runs it, applies Z, and runs it backwards.
+        `kickback`, without `weights` the usual form, runs the circuit once, with the output line in the state minus: it
+        XORs the output into that line, whatever that holds, under every plan but `compact`. `z` runs it, applies Z, and
+        runs it backwards. `weights`, an angle in radians for each output bit, place 0 first, turn the phase by those of the
+        bits that are 1, in the form `z`. `version` is that of OpenQASM, 2 or 3.
         """
-        if self.source.outputs != 1:
+        form = form or ("kickback" if weights is None else "z")
+        if form not in FORMS:
+            raise RevcError(f"no form `{form}` of a phase: {', '.join(FORMS)}")
+        if self.source.outputs != 1 and weights is None:
             raise RevcError(f"phase() is for one output bit, and `{self.source.name}` has {self.source.outputs}: return a "
-                            "comparison, or .all()")
-        lines = self.qasm.strip().split("\n")
-        first = next((i for i, line in enumerate(lines) if line.startswith(("x ", "cx ", "ccx "))), len(lines))
-        head, gates = lines[:first], lines[first:]
-        if form == "kickback" and self.plan == "compact":
+                            "comparison, or .all(), or give each bit an angle: phase(weights=[..])")
+        outputs = range(self.source.inputs, self.source.inputs + self.source.outputs)
+        if form == "z":
+            angles = [math.pi] if weights is None else weights
+            return computed(self.line_names, self.gate_list.gates, outputs, angles, version)
+        if weights is not None:
+            raise RevcError("phase(weights=..) is of the form `z`: a kickback gives one sign")
+        if self.plan == "compact":
             raise RevcError("the output lines of `compact` have to start at 0, and a kickback's does not: phase(\"z\"), or "
                             "another plan")
-        if form == "kickback":
-            body = ["x outp[0];", "h outp[0];"] + gates + ["h outp[0];", "x outp[0];"]
-        elif form == "z":
-            body = gates + ["z outp[0];"] + gates[::-1]
-        else:
-            raise RevcError(f"no form `{form}` of a phase: kickback, z")
-        return "\n".join(head + body) + "\n"
+        return kickback(self.line_names, self.gate_list.gates, outputs[0], version)
 
     @overload
     def draw(self, path: str, columns: int = COLUMNS) -> None: ...
@@ -138,8 +195,6 @@ class Circuit:
         return None if self.is_shown else self.cost._repr_html_()
 
     def save(self, path: str) -> None:
-        """Write the file: `.real`, `.qasm` or `.svg` by its name."""
-        kind = Path(path).suffix
-        if kind not in (".real", ".qasm", ".svg"):
-            raise RevcError(f"{path}: a circuit is written as .real, .qasm or .svg")
-        Path(path).write_text(self.real if kind == ".real" else self.qasm if kind == ".qasm" else self.draw())
+        """Write the file: `.real`, `.qasm`, `.qasm3` or `.svg` by its name."""
+        kind = ending_of(path, (*FILES, ".svg"), "a circuit is written")
+        Path(path).write_text(self.draw() if kind == ".svg" else getattr(self, kind[1:]))

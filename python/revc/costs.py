@@ -1,5 +1,8 @@
 """What all can be had of a program, as a table: plans, and for each the circuits from the least number of lines up."""
-from typing import Dict, List, NamedTuple, Optional, Sequence, Tuple, overload
+import csv
+import io
+import json
+from typing import Dict, List, NamedTuple, Optional, Sequence, Tuple, Union, overload
 
 from .charts import chart
 from .circuits import Circuit
@@ -28,6 +31,10 @@ class Row(NamedTuple):
     def call(self) -> str:
         """The options that give the circuit."""
         return f"plan={self.plan!r}" + ("" if self.lines == LINES else f", lines={self.lines}")
+
+    def as_dict(self) -> Dict[str, Union[str, int]]:
+        """The plan and what to give as `lines`, called `compile_lines`, and each count of the circuit."""
+        return {"plan": self.plan, "compile_lines": self.lines, **self.cost.as_dict()}
 
 
 def counts(cost: Cost) -> Tuple[int, ...]:
@@ -83,6 +90,19 @@ class Costs(List[Row]):
     def _repr_html_(self) -> str:
         """What a notebook shows."""
         return html_table(["plan", *COUNTS.values(), "compile(..)"], self.cells())
+
+    def json(self) -> str:
+        """The rows as a JSON list of objects."""
+        return json.dumps([{"program": self.name, **row.as_dict()} for row in self], indent=1) + "\n"
+
+    def csv(self) -> str:
+        """The rows as a table with commas, below a line of names."""
+        out = io.StringIO()
+        rows = [{"program": self.name, **row.as_dict()} for row in self]
+        table = csv.DictWriter(out, list(rows[0]) if rows else ["program"], lineterminator="\n")
+        table.writeheader()
+        table.writerows(rows)
+        return out.getvalue()
 
     @overload
     def draw(self, path: str, *others: "Costs") -> None: ...

@@ -1,6 +1,6 @@
 """What a circuit costs, counted from its gates."""
 from html import escape
-from typing import Iterable, List, NamedTuple, Sequence, Tuple
+from typing import Dict, Iterable, NamedTuple, Sequence, Tuple
 
 T_GATES = 7  # of a Toffoli gate, without measurements
 
@@ -24,10 +24,14 @@ class Cost(NamedTuple):
     def lines(self) -> int:
         return self.inputs + self.outputs + self.work + self.borrowed
 
+    def as_dict(self) -> Dict[str, int]:
+        """Each count by its name, the lines in all first."""
+        return {"lines": self.lines, **self._asdict()}
+
     def _repr_html_(self) -> str:
         """What a notebook shows: each count under its name."""
-        counts: List[Tuple[str, int]] = [("lines", self.lines), *self._asdict().items()]
-        return html_table([name.replace("_", " ") for name, _ in counts], [[f"{count:,}" for _, count in counts]])
+        counts = self.as_dict()
+        return html_table([name.replace("_", " ") for name in counts], [[f"{count:,}" for count in counts.values()]])
 
     def __str__(self) -> str:
         def several(count: int, word: str) -> str:

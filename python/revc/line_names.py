@@ -4,6 +4,7 @@ from typing import Dict, List, Mapping, Optional, Sequence, Tuple
 
 from .errors import RevcError
 
+Named = Sequence[Tuple[str, int]]  # names and widths
 NAME = re.compile(r"(.*?)(?:\[(\d+)\]|(?<=[A-Za-z_])(\d+))?", re.DOTALL)
 PIECE = re.compile(r"\s*([^\[\]\s]+)\s*(?:\[([^\[\]]*)\])?\s*")
 
@@ -26,6 +27,18 @@ def registers(names: Sequence[str]) -> Dict[str, List[int]]:
             raise RevcError(f"two lines have the name `{name}`")
         found.setdefault(base, []).append(line)
     return found
+
+
+def lines_by_role(params: Named, results: Named, work: int, borrowed: int) -> List[str]:
+    """The names of a compiled circuit's lines, as `a[0]`: parameters, results, `work` and `dirty`, each another one."""
+    names: List[str] = []
+    known = set()
+    for name, width in [*params, *results, ("work", work), ("dirty", borrowed)]:
+        while name in known:
+            name += "_"
+        known.add(name)
+        names += [f"{name}[{place}]" for place in range(width)]
+    return names
 
 
 def pieces(text: str) -> List[str]:

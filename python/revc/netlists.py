@@ -3,11 +3,11 @@ import re
 from dataclasses import dataclass, replace
 from functools import cached_property
 from pathlib import Path
-from typing import Dict, List, Mapping, Optional, Sequence, Tuple
+from typing import Dict, List, Mapping, Optional, Protocol, Tuple
 
 from . import program
 from .errors import RevcError, WidthError
-from .circuit_texts import qasm_text, real_text
+from .circuit_texts import FILES, ending_of, qasm_text, real_text
 from .gates import Gate
 from .line_names import base_of, cut, lines_of, pieces, registers
 from .openqasm import read_openqasm
@@ -16,6 +16,14 @@ from .transforms import controlled, is_plain, moved
 
 OPENQASM = re.compile(r"(?:\s|//[^\n]*|/\*.*?\*/)*(?:OPENQASM|include|qreg|qubit|gate|const)\b", re.DOTALL)
 SPARE = "spare"  # the line that a split may add, which holds anything and comes back
+
+
+class HasNetlist(Protocol):
+    """A `Netlist`, or a compiled circuit."""
+
+    @property
+    def netlist(self) -> "Netlist":
+        """The circuit as a value."""
 
 
 @dataclass(frozen=True)
@@ -34,6 +42,10 @@ class Netlist:
     def __post_init__(self) -> None:
         object.__setattr__(self, "marks", self.marks or "-" * len(self.names))
         object.__setattr__(self, "garbage", self.garbage or "-" * len(self.names))
+
+    @property
+    def netlist(self) -> "Netlist":
+        return self
 
     @property
     def lines(self) -> int:
@@ -68,10 +80,7 @@ class Netlist:
 
     def save(self, path: str) -> None:
         """Write the file: `.real`, `.qasm` or `.qasm3` by its name."""
-        kind = Path(path).suffix
-        if kind not in (".real", ".qasm", ".qasm3"):
-            raise RevcError(f"{path}: a circuit is written as .real, .qasm or .qasm3")
-        Path(path).write_text(self.real if kind == ".real" else self.qasm if kind == ".qasm" else self.qasm3)
+        Path(path).write_text(getattr(self, ending_of(path, FILES, "a circuit is written")[1:]))
 
     def split(self) -> "Netlist":
         """The same by X, CX and CCX gates, which `revc convert` makes of it.
@@ -129,8 +138,9 @@ class Netlist:
         new = (name,) if count == 1 else tuple(f"{name}[{i}]" for i in range(count))
         return Netlist(new + self.names, tuple(gates), "-" * count + self.marks, "-" * count + self.garbage).split()
 
-    def then(self, other: "Netlist") -> "Netlist":
+    def then(self, other: HasNetlist) -> "Netlist":
         """This circuit and then another one, on lines of the same names; lines that only one of them has are added."""
+        other = other.netlist
         known = {key_of(name): line for line, name in enumerate(self.names)}
         added = [line for line, name in enumerate(other.names) if key_of(name) not in known]
         known.update((key_of(other.names[line]), self.lines + count) for count, line in enumerate(added))

@@ -5,29 +5,32 @@ from typing import Optional, Sequence, Union
 from . import program
 from .circuits import Circuit
 from .costs import BY, Costs, best_circuit
-from .defaults import GATES, LINES, NODES, PLAN
+from .defaults import GATES, LINES, NODES, PLAN, WAY
 from .errors import GatesExceeded, LinesExceeded, Refused, RevcError, more
+from .maps import Lines
+from .netlists import Netlist
 from .program import Deadline
 from .progress import Told
-from .revs import RevsText, within
+from .revs import Compiled, RevsText, within
 from .searches import gates_that_fit, lines_that_fit
+from .verifying import asking, verify_netlist, verify_text
 
 
 class Source(RevsText):
     """A text of Revs that is compiled: `Source("main (a : bool) = a").compile()`."""
 
     def compile(self, plan: str = PLAN, lines: int = LINES, gates: int = GATES, borrow: int = 0, nodes: int = NODES,
-                timeout: Optional[float] = None) -> Circuit:
+                timeout: Optional[float] = None, names: bool = False) -> Circuit:
         """A clean circuit of X, CX and Toffoli gates, proved to compute the function on every input.
 
         `plan` is how it is made (docs/COMMANDS.md), `lines` and `gates` are the most that it may have, `borrow` how many
         lines it may borrow. `nodes` are the most functions on which claims may rest. After `timeout` seconds it is given
-        up, by `TimedOut`.
+        up, by `TimedOut`. With `names` the files call lines after the parameters and results.
         """
         words = ["compile", "--plan", plan, "--lines", str(lines), "--gates", str(gates), "--nodes", str(nodes)]
         words += ["--borrow", str(borrow)] if borrow else []
         try:
-            return Circuit(self, self.ask(words, deadline=Deadline(timeout)), words, borrow)
+            return Circuit(self, self.ask(words, deadline=Deadline(timeout)), words, borrow, names)
         except LinesExceeded as refusal:
             raise more(refusal, lines_that_fit(self, plan, lines, gates, borrow)) from None
         except GatesExceeded as refusal:
@@ -38,6 +41,21 @@ class Source(RevsText):
                     raise RevcError(f"no plan `{plan}`: {', '.join(program.plans())}") from None
                 within(lines=lines, gates=gates, borrow=borrow, nodes=nodes)
             raise
+
+    def verify(self, circuit: Union[Circuit, Netlist, Compiled, str], nodes: int = NODES, borrow: int = 0, by: str = WAY,
+               timeout: Optional[float] = None, lines: Optional[Lines] = None) -> str:
+        """Prove that a circuit computes this on every input: a compiled one, a `Netlist`, or the text of a file.
+
+        `lines` say which lines of the circuit stand for a parameter or a result, as {"a": "q[0:4]", "out": "q[4]"}, where
+        `out` is all results and `borrowed` lines that hold anything. Without it they are found by these names, or stand in
+        the order of `verify`. An output may stand on the line of an input.
+        """
+        asks = asking(nodes, by, timeout)
+        if isinstance(circuit, str):
+            return verify_text(self, circuit, lines, borrow, asks)
+        if isinstance(circuit, Netlist) or isinstance(circuit, Circuit) and lines is not None:
+            return verify_netlist(self, circuit.netlist, lines, borrow, asks)
+        return super().verify(circuit, nodes, borrow, by, timeout)
 
     def costs(self, plans: Optional[Sequence[str]] = None, points: int = 6, by: str = BY, progress: Told = None,
               timeout: Optional[float] = None) -> Costs:
