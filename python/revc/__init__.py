@@ -17,7 +17,8 @@ from .costs import Costs, Row
 from .counting import Cost
 from .equality import equal
 from .errors import (CircuitDiffers, CircuitRefused, ClaimFails, GatesExceeded, KindError, KnownLater, LinesExceeded,
-                     NodesExceeded, OutOfMemory, PlaceError, ReadError, Refused, RevcError, TextRefused, TimedOut, Unsettled, WidthError)
+                     NodesExceeded, OutOfMemory, PlaceError, ReadError, Refused, RevcError, TextRefused, TimedOut, Unsettled,
+                     WidthError)
 from .functions import clean, function, require
 from .netlists import Netlist, read
 from .operations import Mux, add, sub
@@ -32,8 +33,8 @@ from .values import Bits
 
 __version__ = "1.1"
 __all__ = ["Bits", "Cat", "Circuit", "CircuitDiffers", "CircuitRefused", "ClaimFails", "Const", "Cost", "Costs",
-           "GatesExceeded", "KindError", "KnownLater", "LinesExceeded", "Mux", "Netlist", "NodesExceeded", "Oracle", "OutOfMemory",
-           "PlaceError", "ReadError", "Refused", "RevcError", "Row", "Source", "Step", "Switch", "TextRefused", "TimedOut", "Unsettled",
-           "WidthError", "add", "clean", "equal", "function", "load", "oracle", "popcount", "read", "require", "sub", "table", "version",
-           "widen"]
+           "GatesExceeded", "KindError", "KnownLater", "LinesExceeded", "Mux", "Netlist", "NodesExceeded", "Oracle",
+           "OutOfMemory", "PlaceError", "ReadError", "Refused", "RevcError", "Row", "Source", "Step", "Switch",
+           "TextRefused", "TimedOut", "Unsettled", "WidthError", "add", "clean", "equal", "function", "load", "oracle",
+           "popcount", "read", "require", "sub", "table", "version", "widen"]
 __all__ += types.__all__

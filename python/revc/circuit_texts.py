@@ -10,10 +10,10 @@ from .line_names import registers
 LONGEST = 64  # bytes of a name
 RESERVED = set(  # words and gates of OpenQASM, which no register may be called
     "OPENQASM include qreg creg qubit bit gate opaque barrier measure reset if else for while in let def cal defcal const "
-    "int uint float angle bool complex duration stretch box delay input output return extern array mutable readonly switch "
-    "case default break continue end ctrl negctrl inv pow pi tau euler U CX u0 u1 u2 u3 u p x y z h s sdg t tdg sx sxdg rx ry rz "
-    "cx cy cz ch cp cu cu1 cu3 crx cry crz ccx ccz swap cswap c3x c4x mcx id phase cphase gphase rxx rzz rccx rc3x csx "
-    "c3sqrtx sin cos tan exp ln sqrt".split())
+    "int uint float angle bool complex duration stretch box delay input output return extern array mutable readonly "
+    "switch case default break continue end ctrl negctrl inv pow pi tau euler U CX u0 u1 u2 u3 u p x y z h s sdg t tdg sx "
+    "sxdg rx ry rz cx cy cz ch cp cu cu1 cu3 crx cry crz ccx ccz swap cswap c3x c4x mcx id phase cphase gphase rxx rzz "
+    "rccx rc3x csx c3sqrtx sin cos tan exp ln sqrt".split())
 FILES = (".real", ".qasm", ".qasm3")  # endings of names
 
 
@@ -53,7 +53,8 @@ def qasm_head(names: Sequence[str], version: int = 2) -> Tuple[List[str], List[s
     """The first lines of an OpenQASM file, with the registers of these lines, and what each line is called."""
     sizes, called = qasm_registers(names)
     head = ["OPENQASM 2.0;", 'include "qelib1.inc";'] if version == 2 else ["OPENQASM 3.0;", 'include "stdgates.inc";']
-    return head + [f"qreg {name}[{size}];" if version == 2 else f"qubit[{size}] {name};" for name, size in sizes.items()], called
+    head += [f"qreg {name}[{size}];" if version == 2 else f"qubit[{size}] {name};" for name, size in sizes.items()]
+    return head, called
 
 
 def qasm_text(names: Sequence[str], gates: Sequence[Gate], version: int = 2) -> str:

@@ -2,9 +2,11 @@
 import csv
 import io
 import json
+from pathlib import Path
 from typing import Dict, List, NamedTuple, Optional, Sequence, Tuple, Union, overload
 
 from .charts import chart
+from .circuit_texts import ending_of
 from .circuits import Circuit
 from .counting import Cost, html_table
 from .defaults import LINES
@@ -91,18 +93,27 @@ class Costs(List[Row]):
         """What a notebook shows."""
         return html_table(["plan", *COUNTS.values(), "compile(..)"], self.cells())
 
-    def json(self) -> str:
-        """The rows as a JSON list of objects."""
-        return json.dumps([{"program": self.name, **row.as_dict()} for row in self], indent=1) + "\n"
+    def as_dicts(self) -> List[Dict[str, Union[str, int]]]:
+        """Each row with all of its counts, below the name of the program."""
+        return [{"program": self.name, **row.as_dict()} for row in self]
 
-    def csv(self) -> str:
-        """The rows as a table with commas, below a line of names."""
-        out = io.StringIO()
-        rows = [{"program": self.name, **row.as_dict()} for row in self]
+    def json(self, *others: "Costs") -> str:
+        """The rows, and those of others behind them, as a JSON list of objects."""
+        return json.dumps([row for each in (self, *others) for row in each.as_dicts()], indent=1) + "\n"
+
+    def csv(self, *others: "Costs") -> str:
+        """The rows, and those of others, as a table with commas, below a line of names."""
+        out, rows = io.StringIO(), [row for each in (self, *others) for row in each.as_dicts()]
         table = csv.DictWriter(out, list(rows[0]) if rows else ["program"], lineterminator="\n")
         table.writeheader()
         table.writerows(rows)
         return out.getvalue()
+
+    def save(self, path: str, *others: "Costs") -> None:
+        """Write the table to a file, as `.csv`, `.json` or the picture `.svg` by its name."""
+        kind = ending_of(path, (".csv", ".json", ".svg"), "costs are written")
+        text = {".csv": self.csv, ".json": self.json}.get(kind)
+        Path(path).write_text(text(*others) if text else self.draw(None, *others))
 
     @overload
     def draw(self, path: str, *others: "Costs") -> None: ...

@@ -75,12 +75,15 @@ def twins(one: Netlist, other: Netlist, lines: Mapping[str, str]) -> Dict[int, i
     """For lines of the first circuit the same line in the other one."""
     found: Dict[int, int] = {}
     for left, right in lines.items():
-        mine, its = lines_of(left, one.registers, "the first circuit"), lines_of(right, other.registers, "the second circuit")
+        mine, its = (lines_of(piece, each.registers, f"the {which} circuit")
+                     for piece, each, which in ((left, one, "first"), (right, other, "second")))
         if len(mine) != len(its):
             raise RevcError(f"`{left}` has {len(mine)} lines and `{right}` {len(its)}")
         found.update(zip(mine, its))
-    by_name = {key_of(name): line for line, name in enumerate(other.names) if line not in found.values()}
-    named = {line: by_name[key_of(name)] for line, name in enumerate(one.names) if line not in found and key_of(name) in by_name}
+    taken = set(found.values())
+    by_name = {key_of(name): line for line, name in enumerate(other.names) if line not in taken}
+    named = {line: by_name[key_of(name)] for line, name in enumerate(one.names)
+             if line not in found and key_of(name) in by_name}
     if found or named:
         return {**found, **named}
     if one.lines != other.lines:
@@ -115,7 +118,7 @@ def program_of(circuits: Circuits) -> RevsText:
             begins[pair.one] = "true" if pair.mark == "1" else "false"
     lets = "".join(f"let l{line} = {begins[line]};\n" for line in range(circuits.one.lines))
     gates = "\n".join(text for gate in circuits.one.gates for text in statements(gate))
-    ends = "; ".join(f"l{pair.one}" if pair.one is not None else ("false", "true")[int(pair.mark)] for pair in circuits.compared)
+    ends = "; ".join(("false", "true")[int(pair.mark)] if pair.one is None else f"l{pair.one}" for pair in circuits.compared)
     text = f"main (x : bool[{len(circuits.free)}]) = {{ {HEAD}\n{lets}{gates}\nreg [{ends}] }}\n"
     if len(text) > LONGEST:
         raise RevcError(f"the smaller circuit has {len(circuits.one.gates):,} gates, more than a program of {LONGEST:,} bytes "

@@ -4,10 +4,12 @@ import runpy
 import sys
 import traceback
 from pathlib import Path
-from typing import Dict, List, Optional
+from typing import Dict, List, Optional, Sequence
 
 from . import program, refusals
-from .errors import RevcError
+from .circuit_texts import FILES, ending_of
+from .errors import CircuitRefused, RevcError
+from .netlists import read_text
 from .oracles import Oracle
 from .real import form_of
 from .sources import Source
@@ -28,7 +30,7 @@ def source_of(path: str) -> Source:
     file, _, name = path.partition(":") if ".py:" in path else (path, "", "")
     if file.endswith(".py"):
         return oracle_of(file, name)
-    if file.endswith((".real", ".qasm", ".svg")):
+    if file.endswith((*FILES, ".svg")):
         raise RevcError(f"{file} is a circuit, and a program is wanted: a .revs or .py file")
     text = text_of(file)
     if text.lstrip().startswith(("OPENQASM", ".version", ".numvars")):
@@ -64,14 +66,35 @@ def circuit_text(path: str) -> str:
 
 
 def is_circuit(path: str) -> bool:
-    return path.endswith((".real", ".qasm"))
+    return path.endswith(FILES)
 
 
-def on_circuit(words: List[str], text: str) -> str:
-    """What the program writes for a circuit's file."""
-    done = program.call(words + ["--from", form_of(text)], text.encode(),
-                        lambda message, status: refusals.explain(message, status, None, text, words))
-    return done.decode()
+def on_circuit(words: List[str], text: str, path: str = "circuit") -> str:
+    """What the program writes for a circuit's file; OpenQASM that only this package reads goes to it as `.real`."""
+    def explain(message: str, status: int) -> str:
+        return refusals.explain(message, status, None, text)
+    form = form_of(text)
+    try:
+        return program.call(words + ["--from", form], text.encode(), explain).decode()
+    except CircuitRefused:
+        if form == "real":
+            raise
+    return program.call(words + ["--from", "real"], read_text(text, path).real.encode(), explain).decode()
+
+
+def converted(command: str, text: str, form: str, path: str) -> str:
+    """A circuit's file by X, CX and CCX gates, which `convert` or `tidy` makes; names of lines are kept where this package
+    reads or writes it."""
+    if form != "qasm3":
+        try:
+            return program.call([command, "--to", form, "--from", form_of(text)], text.encode(),
+                                lambda message, status: refusals.explain(message, status, None, text)).decode()
+        except CircuitRefused:
+            if form_of(text) == "real":
+                raise
+    netlist = read_text(text, path)
+    written: str = getattr(netlist.tidy() if command == "tidy" else netlist.split(), form)
+    return written
 
 
 def write(text: str, path: Optional[str]) -> None:
@@ -81,14 +104,16 @@ def write(text: str, path: Optional[str]) -> None:
         sys.stdout.write(text)
 
 
-def format_of(path: Optional[str], usual: str) -> str:
-    """The format that a file's name says."""
+def format_of(path: Optional[str], given: Optional[str], usual: str, endings: Sequence[str] = FILES,
+              what: str = "a circuit is written") -> str:
+    """The format that is written: the one that is given or that a file's name says, which have to fit."""
     if path in (None, "-"):
-        return usual
-    suffix = Path(str(path)).suffix.lstrip(".")
-    if suffix not in ("real", "qasm"):
-        raise RevcError(f"{path}: a circuit is written as .real or .qasm")
-    return suffix
+        return given or usual
+    form = ending_of(str(path), endings, what)[1:]
+    if given not in (None, form) and (form, given) != ("qasm", "qasm3"):  # OpenQASM 3 is often called .qasm
+        raise RevcError(f"{path}: --format {given} is not what the name says: call it {Path(str(path)).stem}.{given}, or leave "
+                        "--format out")
+    return given or form
 
 
 def numbers(words: List[str]) -> Dict[str, int]:

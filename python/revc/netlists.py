@@ -1,5 +1,4 @@
 """Circuits as values: gates on lines that have names. They come from files, or of programs from `compile`."""
-import re
 from dataclasses import dataclass, replace
 from functools import cached_property
 from pathlib import Path
@@ -11,10 +10,9 @@ from .circuit_texts import FILES, ending_of, qasm_text, real_text
 from .gates import Gate
 from .line_names import base_of, cut, lines_of, pieces, registers
 from .openqasm import read_openqasm
-from .real import read_real
+from .real import form_of, read_real
 from .transforms import controlled, is_plain, moved
 
-OPENQASM = re.compile(r"(?:\s|//[^\n]*|/\*.*?\*/)*(?:OPENQASM|include|qreg|qubit|gate|const)\b", re.DOTALL)
 SPARE = "spare"  # the line that a split may add, which holds anything and comes back
 
 
@@ -87,9 +85,15 @@ class Netlist:
 
         It takes other lines for them as they are. Only where a gate uses them all a line `spare` is added.
         """
-        if all(map(is_plain, self.gates)):
-            return self
-        text = program.call(["convert", "--from", "real", "--to", "real"], self.real.encode()).decode()
+        return self if all(map(is_plain, self.gates)) else self.by("convert")
+
+    def tidy(self) -> "Netlist":
+        """The same by X, CX and CCX gates of which none cancel, which `revc tidy` makes of it."""
+        return self.by("tidy")
+
+    def by(self, command: str) -> "Netlist":
+        """What a command of the program makes of it, `convert` or `tidy`."""
+        text = program.call([command, "--from", "real", "--to", "real"], self.real.encode()).decode()
         names, _, gates = read_real(text)
         added = len(names) - self.lines
         return replace(self, names=self.names + (SPARE,) * added, gates=tuple(gates), marks=self.marks + "-" * added,
@@ -108,7 +112,8 @@ class Netlist:
             if name not in places:
                 raise RevcError(f"the circuit has no register `{name}`: it has {', '.join(places)}")
             if not 0 <= number < 1 << len(places[name]):
-                raise WidthError(f"{name}={number} does not fit in {len(places[name])} lines: 0 to {(1 << len(places[name])) - 1}")
+                raise WidthError(f"{name}={number} does not fit in {len(places[name])} lines: 0 to "
+                                 f"{(1 << len(places[name])) - 1}")
             for place, line in enumerate(places[name]):
                 if self.marks[line] not in ("-", str(number >> place & 1)):
                     raise RevcError(f"`{name}`: the line {self.names[line]} always starts at {self.marks[line]}")
@@ -187,7 +192,7 @@ def new_names(piece: str, count: int) -> List[str]:
 
 def read_text(text: str, name: str = "circuit") -> Netlist:
     """The circuit of a `.real` or OpenQASM text; `name` is what refusals call it."""
-    if OPENQASM.match(text):
+    if form_of(text) == "qasm":
         names, marks, gates = read_openqasm(text, name)
         return Netlist(tuple(names), tuple(gates))
     try:

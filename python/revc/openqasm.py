@@ -159,7 +159,8 @@ class Reader:
         count = max(map(len, operands))
         if any(len(lines) not in (1, count) for lines in operands):
             sizes = ", ".join(str(len(lines)) for lines in operands)
-            self.tokens.refuse(f"`{name.text}` is given registers of {sizes} lines: they have one size, or are single lines", name)
+            self.tokens.refuse(f"`{name.text}` is given registers of {sizes} lines: they have one size, or are single lines",
+                               name)
         calls = [[lines[i if len(lines) > 1 else 0] for lines in operands] for i in range(count)]
         for lines in calls:
             if len(set(lines)) < len(lines):

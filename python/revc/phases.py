@@ -1,11 +1,13 @@
 """Phase oracles: OpenQASM that turns the phase of inputs by what a circuit puts out."""
 import math
 from fractions import Fraction
-from typing import List, Sequence
+from typing import Sequence
 
 from .errors import RevcError, WidthError
 from .circuit_texts import qasm_gate, qasm_head
 from .gates import Gate
+from .qasm_tokens import Tokens
+from .unitaries import Angles
 
 FINEST = 1 << 20  # the greatest part of pi that is written as one
 FORMS = ("kickback", "z")
@@ -23,8 +25,8 @@ def computed(names: Sequence[str], gates: Sequence[Gate], outputs: Sequence[int]
              version: int = 2) -> str:
     """The circuit, the phase `weights[i]`, in radians, where output i is 1, and the circuit backwards."""
     if len(weights) != len(outputs):
-        raise WidthError(f"phase(weights=..) has {len(weights)} angles, and there are {len(outputs)} output bits: one for each, "
-                         "in radians, place 0 first")
+        raise WidthError(f"phase(weights=..) has {len(weights)} angles, and there are {len(outputs)} output bits: one for "
+                         "each, in radians, place 0 first")
     head, called = qasm_head(names, version)
     body = [qasm_gate(gate, called) for gate in gates]
     turns = [turn(weight, called[line], version) for line, weight in zip(outputs, weights) if weight]
@@ -44,6 +46,15 @@ def turn(angle: float, line: str, version: int) -> str:
     return f"{'u1' if version == 2 else 'p'}({written(size)}) {line};"
 
 
+def angle_of(word: str) -> float:
+    """An angle from a word of the command, as `pi/4` or `0.5`."""
+    angles = Angles(Tokens(word, "--weights"))
+    angle = angles.value()
+    if angles.tokens.next.kind != "end":
+        angles.tokens.refuse("an angle is a number, or a part of pi as `3*pi/4`", angles.tokens.next)
+    return angle
+
+
 def written(angle: float) -> str:
     """An angle as OpenQASM writes it: a part of pi where it is one, else all of its digits."""
     part = Fraction(angle / math.pi).limit_denominator(FINEST)
@@ -51,8 +62,3 @@ def written(angle: float) -> str:
         times = {1: "pi", -1: "-pi"}.get(part.numerator, f"{part.numerator}*pi")
         return times if part.denominator == 1 else f"{times}/{part.denominator}"
     return repr(angle)
-
-
-def angles_of_number(angle: float, bits: int) -> List[float]:
-    """The weights by which a number of so many bits turns the phase by `angle` times itself."""
-    return [angle * (1 << place) for place in range(bits)]

@@ -1,9 +1,12 @@
 """The gates of a `.real` file: RevLib's format, of which docs/FORMATS.md says what the program takes."""
+import re
 from itertools import takewhile
 from typing import Dict, Iterator, List, NamedTuple, Union
 
 from .errors import RevcError
 from .gates import Gate
+
+OPENQASM = re.compile(r"(?:\s|//[^\n]*|/\*.*?\*/)*(?:OPENQASM|include|qreg|qubit|gate|const)\b", re.DOTALL)
 
 
 class GateList(NamedTuple):
@@ -79,5 +82,4 @@ def read_real(text: str) -> GateList:
 def form_of(text: Union[str, bytes]) -> str:
     """The format of a circuit's text."""
     start = text[:4000].decode(errors="replace") if isinstance(text, bytes) else text[:4000]
-    lines = [line for line in start.split("\n") if line.strip() and not line.strip().startswith(("//", "#"))]
-    return "qasm" if lines and lines[0].strip().startswith("OPENQASM") else "real"
+    return "qasm" if OPENQASM.match(start) else "real"

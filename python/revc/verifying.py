@@ -7,8 +7,9 @@ from .defaults import NODES, WAY
 from .errors import CircuitDiffers, CircuitRefused, Refused, RevcError, more
 from .line_names import registers
 from .maps import LineMap, Lines, Signature, found_by_names, mapped
-from .netlists import OPENQASM, SPARE, Netlist, read_text
+from .netlists import SPARE, Netlist, read_text
 from .program import Deadline
+from .real import form_of
 from .revs import RevsText
 from .transforms import flip, moved
 
@@ -24,8 +25,8 @@ def asking(nodes: int = NODES, by: str = WAY, timeout: Optional[float] = None) -
     return lambda program, text, borrowed: RevsText.verify(program, text, nodes, borrowed, by, deadline.left())
 
 
-def verify_text(program: RevsText, text: str, lines: Optional[Lines], borrow: int, asks: Asks) -> str:
-    """Prove that the circuit of a `.real` or OpenQASM text computes a program on every input.
+def verify_text(program: RevsText, text: str, lines: Optional[Lines], borrow: int, asks: Asks, name: str = "circuit") -> str:
+    """Prove that the circuit of a `.real` or OpenQASM text computes a program on every input; `name` is for refusals.
 
     A text that the program `revc` reads, with its lines in order, is given to it as it is; others are read here first.
     """
@@ -33,17 +34,17 @@ def verify_text(program: RevsText, text: str, lines: Optional[Lines], borrow: in
         try:
             return asks(program, text, borrow)
         except CircuitRefused:
-            if not OPENQASM.match(text):
+            if form_of(text) == "real":
                 raise
         except Refused as refusal:
             if refusal.status != NO_PLAIN_GATE:
                 raise
-    return verify_netlist(program, read_text(text), lines, borrow, asks)
+    return verify_netlist(program, read_text(text, name), lines, borrow, asks)
 
 
 def is_in_order(program: RevsText, text: str) -> bool:
     """Whether no names of a text's head put its lines into another order than that in which they stand."""
-    if OPENQASM.match(text):
+    if form_of(text) == "qasm":
         names = [f"{name}[{place}]" for name, size in REGISTER.findall(text) for place in range(min(int(size), 16384))]
     else:
         names = next((line.split()[1:] for line in text.split("\n") if line.startswith(".variables")), [])

@@ -122,7 +122,8 @@ class Reading(unittest.TestCase):
 
     def test_registers(self) -> None:
         ops = [Op("cx", (0, 4))]
-        self.assertEqual(read_text(TOOLS["Qiskit, OpenQASM 2"](ops, Registers(3, 5))).registers, {"a": [0, 1, 2], "sum": [3, 4]})
+        self.assertEqual(read_text(TOOLS["Qiskit, OpenQASM 3"](ops, Registers(3, 5))).registers,
+                         {"a": [0, 1, 2], "sum": [3, 4]})
         self.assertEqual(read_text(TOOLS["RevLib"](ops, Registers(3, 5))).registers, {"x": [0, 1, 2, 3, 4]})
         self.assertEqual(read_text(ADDER).registers, {"cin": [0], "a": [1, 2, 3, 4], "b": [5, 6, 7, 8], "cout": [9]})
 

@@ -105,7 +105,8 @@ class Values(unittest.TestCase):
         one = read_text(ADDER)
         self.assertEqual(one.run(a=9, b=13, cin=1), {"cin": 1, "a": 9, "b": 7, "cout": 1})
         self.assertEqual(one.run({"x": "a", "y": "b, cout"}, x=9, y=13), {"x": 9, "y": 22})
-        for numbers, says in (({"a": 16}, "a=16 does not fit in 4 lines: 0 to 15"), ({"d": 1}, "no register `d`: it has cin, a")):
+        for numbers, says in (({"a": 16}, "a=16 does not fit in 4 lines: 0 to 15"),
+                              ({"d": 1}, "no register `d`: it has cin, a")):
             with self.assertRaises(RevcError) as refused:
                 one.run(None, **numbers)
             self.assertIn(says, str(refused.exception))
@@ -126,7 +127,8 @@ class AgainstPrograms(unittest.TestCase):
         lines = {"a": "a", "b": "b", "out": "b, cout"}
         self.assertEqual(adder.verify(read_text(ADDER), lines=lines), "verified")
         self.assertEqual(adder.verify(ADDER, lines=lines), "verified")
-        for wrong, line in (("x a[0];", "a[0]"), ("cx a[1], cin[0];", "cin[0]"), ("ccx a[0], a[1], b[3];", "b[3]"), ("x cout;", "cout")):
+        for wrong, line in (("x a[0];", "a[0]"), ("cx a[1], cin[0];", "cin[0]"), ("ccx a[0], a[1], b[3];", "b[3]"),
+                            ("x cout;", "cout")):
             with self.assertRaises(CircuitDiffers) as refused:
                 adder.verify(ADDER + wrong, lines=lines)
             self.assertIn(f"the circuit calls that line `{line}`", str(refused.exception))
@@ -227,7 +229,8 @@ class AgainstEachOther(unittest.TestCase):
 class Files(unittest.TestCase):
     def test_forms(self) -> None:
         """Each form is read as the circuit that was written, also with controls that are wide or negative."""
-        gates = "ctrl(3) @ x q[0],q[1],q[2],q[3]; negctrl @ ctrl @ x q[0],q[1],r; ctrl @ cswap q[0],r,q[1],q[2]; negctrl @ x r,q[3];"
+        gates = ("ctrl(3) @ x q[0],q[1],q[2],q[3]; negctrl @ ctrl @ x q[0],q[1],r; ctrl @ cswap q[0],r,q[1],q[2]; "
+                 "negctrl @ x r,q[3];")
         one = read_text("OPENQASM 3.0;\nqubit[4] q; qubit r;\n" + gates)
         for text in (one.qasm3, one.real, one.qasm):
             again = read_text(text)
@@ -257,8 +260,8 @@ def phase_of(qasm: str, bits: int) -> Optional[Tuple[int, complex]]:
     """What bits become by X gates and turns of the phase, and the phase."""
     starts: Dict[str, int] = {}
     total, phase = 0, 1 + 0j
-    for name, size in re.findall(r"qreg (\w+)\[(\d+)\];", qasm) or [(n, s) for s, n in re.findall(r"qubit\[(\d+)\] (\w+);", qasm)]:
-        starts[name], total = total, total + int(size)
+    for three, name, two in re.findall(r"(?:qreg|qubit\[(\d+)\]) (\w+)(?:\[(\d+)\])?;", qasm):
+        starts[name], total = total, total + int(three or two)
     for word, angle, places in re.findall(r"^(x|cx|ccx|z|u1|p)(?:\(([^)]*)\))? ([^;]*);", qasm, re.MULTILINE):
         lines = [starts[name] + int(i) for name, i in re.findall(r"(\w+)\[(\d+)\]", places)]
         if word in ("z", "u1", "p"):
