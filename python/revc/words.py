@@ -98,7 +98,7 @@ def no_command(name: str) -> str:
     if name in {each[0] for each in OF_PACKAGE}:
         return f"`{name}` is a command of `python3 -m revc`, which works on files"
     near = nearest(name, COMMANDS)
-    if os.path.exists(name):
+    if os.path.isfile(name):
         return f"`{name}` is a file, and a command is wanted first: compile < {name}"
     return f"there is no command `{name}`: " + (f"is it `{near}`?" if near else one_of(COMMANDS))
 
@@ -159,7 +159,7 @@ def check_plain(command: str, plain: List[str]) -> None:
     for word in plain if about.reads else []:
         if word.endswith(".py"):
             raise Refusal(f"`{word}` is a file of Python: python3 -m revc {command} {word}")
-        if word.endswith(TEXTS) or "/" in word or not word.isdigit() and os.path.exists(word):
+        if word.endswith(TEXTS) or "/" in word or not word.isdigit() and os.path.isfile(word):
             raise Refusal(f"`{command}` reads {about.reads} from standard input: write `< {word}` in place of `{word}`")
     if len(plain) > len(wants) and not many:
         raise Refusal(f"`{command}` takes no `{plain[len(wants)]}`" + (f": it takes {' '.join(wants)} alone" if wants else

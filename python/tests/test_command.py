@@ -1,11 +1,15 @@
 """The command `python3 -m revc`, as a shell has it."""
+import io
 import os
 import subprocess
 import sys
 import tempfile
 import unittest
+from contextlib import redirect_stdout
 from pathlib import Path
 from typing import Tuple
+
+from revc.__main__ import main
 
 PACKAGE = Path(__file__).resolve().parent.parent
 EXAMPLES = PACKAGE.parent / "examples"
@@ -18,6 +22,13 @@ def alu(op: Bits[2], a: Bits[4], b: Bits[4]):
 
 
 class Command(unittest.TestCase):
+    cache: tempfile.TemporaryDirectory  # of bytecode, so that not each call compiles the package
+
+    @classmethod
+    def setUpClass(cls) -> None:
+        cls.cache = tempfile.TemporaryDirectory()
+        cls.addClassCleanup(cls.cache.cleanup)
+
     def setUp(self) -> None:
         folder = tempfile.TemporaryDirectory()
         self.addCleanup(folder.cleanup)
@@ -25,7 +36,8 @@ class Command(unittest.TestCase):
         (self.room / "alu.py").write_text(ALU)
 
     def run_in(self, words: str, text: str = "") -> Tuple[int, str, str]:
-        space = dict(os.environ, PYTHONPATH=str(PACKAGE), PYTHONDONTWRITEBYTECODE="1", EXAMPLES=str(EXAMPLES))
+        space = dict(os.environ, PYTHONPATH=str(PACKAGE), PYTHONPYCACHEPREFIX=self.cache.name, EXAMPLES=str(EXAMPLES))
+        space.pop("PYTHONDONTWRITEBYTECODE", None)
         done = subprocess.run(f"{sys.executable} -m revc {words}", shell=True, cwd=self.folder, env=space,
                               input=text.encode(), stdout=subprocess.PIPE, stderr=subprocess.PIPE)
         return done.returncode, done.stdout.decode(), done.stderr.decode()
@@ -70,7 +82,11 @@ class Command(unittest.TestCase):
     def test_help(self) -> None:
         self.gives("--help", "compile")
         for each in "compile costs check run stat verify convert tidy draw phase text".split():
-            self.gives(each + " --help", "usage: revc " + each)
+            out = io.StringIO()
+            with self.assertRaises(SystemExit) as ended, redirect_stdout(out):
+                main([each, "--help"])
+            self.assertEqual(ended.exception.code, 0)
+            self.assertIn("usage: revc " + each, out.getvalue())
 
     def test_refusals(self) -> None:
         self.refuses("compile alu.revs", "alu.revs: No such file or directory")

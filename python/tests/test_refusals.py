@@ -5,6 +5,7 @@ from typing import Any, Callable, Dict, List
 
 from revc import (Bits, Cat, Const, GatesExceeded, Mux, Oracle, Refused, RevcError, Source, Switch, function, oracle, require,
                   table, widen)
+from revc.refusals import explain
 
 
 def trace(body: Callable[..., Any], widths: Dict[str, int]) -> Any:
@@ -223,10 +224,9 @@ class OfThePackage(unittest.TestCase):
         self.refused("more than 1,000,000 functions, the most there are: diagrams do not settle it", claimed.check)
         self.refused("come to more than 10 functions: take more nodes, up to 1,000,000 (--nodes), or by=\"both\" (--by both)",
                      lambda: product.verify(circuit, nodes=10, by="diagrams"))
-        self.refused("come to more than 1,000,000 functions: take by=\"both\" (--by both), which settles most circuits",
-                     lambda: product.verify(circuit, by="diagrams"))
-        eager = product.compile("eager")
-        self.refused("the most there are, and sums do not settle it either: verify smaller parts", lambda: product.verify(eager))
+        for by, says in (("diagrams", "come to more than 1,000,000 functions: take by=\"both\" (--by both), which settles most"),
+                         ("both", "the most there are, and sums do not settle it either: verify smaller parts")):
+            self.assertIn(says, explain("revc: circuit passes 1000000 nodes", 5, product, circuit.real, ["verify", "--by", by]))
 
     def test_recursion(self) -> None:
         @function
