@@ -3,11 +3,13 @@ import cmath
 import math
 import re
 import unittest
+from dataclasses import replace
 from random import Random
 from typing import Dict, List, Optional, Tuple
 
 from foreign import TOOLS, Op, Registers, ran, random_ops
 from revc import Bits, CircuitDiffers, Netlist, RevcError, Source, add, equal, oracle, read
+from revc.gates import Gate
 from revc.netlists import read_text
 from test_files import ADDER, TWO, ran_by_gates
 
@@ -224,6 +226,57 @@ class AgainstEachOther(unittest.TestCase):
         self.assertEqual([equal(one, other), equal(other, one)], ["equal", "equal"])
         with self.assertRaises(CircuitDiffers):
             equal(other, one.then(read_text(head + ".begin\nt2 a b\n.end\n")))
+
+
+def random_netlist(random: Random, names: List[str], mark_of: Dict[str, str], count: int) -> Netlist:
+    """Gates with wide and negative controls on lines in any order, some of them garbage."""
+    names, gates = random.sample(names, len(names)), []
+    for _ in range(count):
+        lines = random.sample(range(len(names)), random.randint(1, min(4, len(names))))
+        targets = 2 if len(lines) > 1 and random.random() < 0.25 else 1
+        controls = tuple((line, random.random() < 0.7) for line in lines[:-targets])
+        gates.append(Gate(controls, tuple(lines[-targets:])))
+    garbage = "".join(random.choice("-----1") for _ in names)
+    return Netlist(tuple(names), tuple(gates), "".join(mark_of[name] for name in names), garbage)
+
+
+def ends_of(netlist: Netlist, starts: Dict[str, int]) -> Dict[str, int]:
+    """What the lines end with that are not garbage, by their names; lines of other circuits end as they start."""
+    bits = ran_by_gates(netlist, sum(starts[name] << line for line, name in enumerate(netlist.names)))
+    return {**starts, **{name: bits >> line & 1 for line, name in enumerate(netlist.names)}}
+
+
+class AllKindsOfLines(unittest.TestCase):
+    def test_equal(self) -> None:
+        """Lines of both, lines of one alone, marks and garbage, against all inputs."""
+        random, answers = Random(11), []
+        while len(answers) < 120:
+            shared = [f"a[{i}]" for i in range(random.randint(1, 4))]
+            own = [[f"{name}[{i}]" for i in range(random.choice((0, 0, 1, 2)))] for name in ("w", "z")]
+            mark_of = {name: random.choice("---01" if name in shared else "01") for name in shared + own[0] + own[1]}
+            one = random_netlist(random, shared + own[0], mark_of, random.randint(0, 3))
+            other = random_netlist(random, shared + own[1], mark_of, random.randint(0, 2))
+            if not own[1] and random.random() < 0.7:
+                other = one.then(replace(other, gates=other.gates + other.gates[::-1] if random.random() < 0.5 else other.gates))
+            free = [name for name, mark in mark_of.items() if mark == "-"]
+            garbage = {name for each in (one, other) for name, mark in zip(each.names, each.garbage) if mark == "1"}
+            if not free or len(garbage) == len(mark_of):
+                continue
+            wanted = True
+            for bits in range(1 << len(free)):
+                starts = {name: bits >> free.index(name) & 1 if mark == "-" else int(mark) for name, mark in mark_of.items()}
+                ends = [ends_of(each, starts) for each in (one, other)]
+                wanted &= all(ends[0][name] == ends[1][name] for name in mark_of if name not in garbage)
+            answers.append(wanted)
+            self.assertEqual(is_equal(one, other), wanted, (one.names, one.gates, other.names, other.gates))
+        self.assertTrue(30 < sum(answers) < 90)
+
+
+def is_equal(one: Netlist, other: Netlist) -> bool:
+    try:
+        return equal(one, other) == "equal"
+    except CircuitDiffers:
+        return False
 
 
 class Files(unittest.TestCase):
