@@ -6,6 +6,7 @@ from typing import Any, Callable, Dict, List, NoReturn, Optional, Tuple
 from .circuit_texts import FILES, ending_of
 from .circuits import COLUMNS, Circuit
 from .costs import BY, COUNTS
+from .counting import depths, t_gates
 from .defaults import DEFAULTS
 from .drawing import Drawing
 from .equality import equal
@@ -65,7 +66,11 @@ def do_run(options: argparse.Namespace) -> None:
 
 
 def do_stat(options: argparse.Namespace) -> None:
-    sys.stdout.write(on_circuit(["stat"], circuit_text(options.circuit), options.circuit))
+    text = circuit_text(options.circuit)
+    counted = on_circuit(["stat"], text, options.circuit)
+    plain = read_text(text, options.circuit).split()  # wide gates and swaps count as `convert` splits them
+    gates = [gate.lines for gate in plain.gates]
+    sys.stdout.write(f"{counted}toffoli_depth {depths(gates, plain.lines)[1]}\nt {t_gates(gates)}\n")
 
 
 def do_verify(options: argparse.Namespace) -> None:
@@ -222,15 +227,16 @@ COMMANDS: List[Tuple[str, Command, str, Tuple[str, ...], Taking]] = [
     ("costs", do_costs, "show what all can be had: plans, and lines from the least that fits up", (), takes_costs),
     ("check", do_check, "prove the claims of a program for all inputs", ("program",), takes_check),
     ("run", do_run, "run a program or a circuit on numbers (a=3 b=5), or a circuit on bits", ("program",), takes_numbers),
-    ("stat", do_stat, "count lines, gates and depth of a circuit", ("circuit",), takes_nothing),
+    ("stat", do_stat, "count lines, gates, depths and T gates of a circuit", ("circuit",), takes_nothing),
     ("verify", do_verify, "prove that a circuit computes a program on every input", ("program", "circuit"),
      takes_verify),
-    ("equal", do_equal, "prove that two circuits end with the same bits, whatever their lines start with", ("circuit", "other"),
-     takes_equal),
+    ("equal", do_equal, "prove that two circuits end with the same bits, whatever their lines start with",
+     ("circuit", "other"), takes_equal),
     ("convert", do_convert, "write a circuit by X, CX and CCX gates alone", ("circuit",), Parser.form),
     ("tidy", do_convert, "the same with gates taken out that cancel, and short runs of CX gates", ("circuit",), Parser.form),
     ("draw", do_draw, "draw a program's circuit, or a circuit's file, as SVG", ("file",), takes_draw),
-    ("phase", do_phase, "write OpenQASM that turns the phase by the output, the sign where it is 1", ("program",), takes_phase),
+    ("phase", do_phase, "write OpenQASM that turns the phase by the output, the sign where it is 1", ("program",),
+     takes_phase),
     ("text", do_text, "write the text of Revs that a file of Python stands for", ("program",),
      lambda one: one.output("the .revs file")),
 ]

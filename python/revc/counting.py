@@ -49,7 +49,12 @@ def depths(gates: Sequence[Sequence[int]], lines: int) -> Tuple[int, int]:
         deep, deep3 = max([all_[i] for i in gate]) + 1, max([toffoli[i] for i in gate]) + (len(gate) > 2)
         for i in gate:
             all_[i], toffoli[i] = deep, deep3
-    return max(all_), max(toffoli)
+    return max(all_, default=0), max(toffoli, default=0)
+
+
+def t_gates(gates: Sequence[Sequence[int]]) -> int:
+    """How many T gates the Toffoli gates among X, CX and Toffoli gates take."""
+    return T_GATES * sum(len(gate) == 3 for gate in gates)
 
 
 def cost_of(gates: Sequence[Sequence[int]], inputs: int, outputs: int, borrowed: int, lines: int) -> Cost:

@@ -72,7 +72,7 @@ def is_circuit(path: str) -> bool:
 def on_circuit(words: List[str], text: str, path: str = "circuit") -> str:
     """What the program writes for a circuit's file; OpenQASM that only this package reads goes to it as `.real`."""
     def explain(message: str, status: int) -> str:
-        return refusals.explain(message, status, None, text)
+        return refusals.explain(message, status, None, text, words)
     form = form_of(text)
     try:
         return program.call(words + ["--from", form], text.encode(), explain).decode()
@@ -88,7 +88,7 @@ def converted(command: str, text: str, form: str, path: str) -> str:
     if form != "qasm3":
         try:
             return program.call([command, "--to", form, "--from", form_of(text)], text.encode(),
-                                lambda message, status: refusals.explain(message, status, None, text)).decode()
+                                lambda message, status: refusals.explain(message, status, None, text, [command])).decode()
         except CircuitRefused:
             if form_of(text) == "real":
                 raise

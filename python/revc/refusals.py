@@ -16,8 +16,8 @@ ANSWERS = [  # messages that have no class of their own
     (r"circuit over", "a circuit has at most 134,217,728 bytes"),
     (r"bad bits in word (\d+)", "word {0} is no list of as many digits 0 and 1 as there are inputs"),
     (r"circuit has (\d+) lines, needs (\d+)",
-     "with a line for each input and each output it has {1} at least: is it the circuit of another program, or one that puts "
-     "its outputs in place of its inputs? Such a one has to copy them to lines of their own, and to undo the rest"),
+     "with a line for each input and each output it has {1} at least: is it the circuit of another program? Where an output "
+     "stands in place of an input, say which line is which, lines={{..}} (--map)"),
     (r"gate (\d+) is not X, CX or CCX", "`convert` makes X, CX and CCX gates of it; then verify that"),
     (r"(read|write) fault", "standard input or output failed: is the disk full, or was a pipe closed?"),
 ]
@@ -66,8 +66,8 @@ def meaning(refusal: Refused, source: Optional["RevsText"], words: Sequence[str]
 def difference(refusal: CircuitDiffers, source: "RevsText") -> str:
     """Which line ends with another bit than it should, and what it should end with."""
     line, outside = refusal.line, source.inputs + source.outputs
-    should = ("an input has to end as it began: a circuit that puts outputs there has to copy them to lines of their own, "
-              "and to undo the rest" if line <= source.inputs else "" if line <= outside else
+    should = ("an input has to end as it began; where an output stands in its place, say which line is which, lines={..} "
+              "(--map)" if line <= source.inputs else "" if line <= outside else
               "a work line has to end at 0, a borrowed one as it began: undo what was computed there")
     return (f"{source.role(line)} ends with the wrong bit on {source.assignment(refusal.inputs)}"
             + (f"\n{should}" if should else ""))

@@ -261,8 +261,10 @@ class OfThePackage(unittest.TestCase):
         @oracle
         def both(a: Bits[1], b: Bits[1]):
             return a ^ b
-        self.refused("puts its outputs in place of its inputs? Such a one has to copy them to lines of their own",
-                     lambda: both.verify(".numvars 2\n.variables a b\n.begin\nt2 a b\n.end\n"))
+        in_place = ".numvars 2\n.variables x y\n.begin\nt2 x y\n.end\n"
+        self.refused("Where an output stands in place of an input, say which line is which, lines={..} (--map)",
+                     lambda: both.verify(in_place))
+        self.assertEqual(both.verify(in_place, lines={"a": "x", "b": "y", "out": "y"}), "verified")
         self.refused("line 2, the input b, ends with the wrong bit on a=1 b=0\nan input has to end as it began",
                      lambda: both.verify(".numvars 3\n.variables a b c\n.begin\nt2 a b\nt2 b c\n.end\n"))
         self.refused("a work line has to end at 0", lambda: both.verify(
