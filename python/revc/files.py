@@ -14,7 +14,7 @@ from .oracles import Oracle
 from .real import form_of
 from .sources import Source
 
-PACKAGE = os.path.dirname(os.path.abspath(__file__))
+PACKAGE = os.path.dirname(os.path.abspath(__file__)) + os.sep
 
 
 def text_of(path: str) -> str:
@@ -133,5 +133,5 @@ def numbers(words: List[str]) -> Dict[str, int]:
 def place_of(error: BaseException) -> str:
     """The author's line in which an error came up."""
     frames = [each for each in traceback.extract_tb(error.__traceback__)
-              if os.path.dirname(each.filename) != PACKAGE and each.filename.endswith(".py") and "runpy" not in each.filename]
+              if not each.filename.startswith(PACKAGE) and each.filename.endswith(".py") and "runpy" not in each.filename]
     return f"\n{frames[-1].filename}:{frames[-1].lineno}: {frames[-1].line}" if frames else ""

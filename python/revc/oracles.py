@@ -14,7 +14,7 @@ from .sources import Source
 from .trace import Node, Program
 from .values import Bits
 
-PACKAGE = os.path.dirname(os.path.abspath(__file__))
+PACKAGE = os.path.dirname(os.path.abspath(__file__)) + os.sep
 MOST = 1024  # bits of all parameters, and of all results
 
 
@@ -69,7 +69,7 @@ def traced(func: Callable[..., Any], values: Dict[str, Bits], known: Dict[str, A
 
 def endless(error: RecursionError) -> str:
     """Which function of the author's calls itself without end, and where."""
-    frames = [each for each in traceback.extract_tb(error.__traceback__) if os.path.dirname(each.filename) != PACKAGE]
+    frames = [each for each in traceback.extract_tb(error.__traceback__) if not each.filename.startswith(PACKAGE)]
     if not frames:
         return "a function calls itself without end"
     (file, line, name, code), _ = Counter(map(tuple, frames)).most_common(1)[0]

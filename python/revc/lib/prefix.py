@@ -1,0 +1,68 @@
+"""Sums, differences and comparisons with few ANDs one behind the other. `+`, `-` and `<` take fewer, all in a row."""
+from typing import Any, List, Union
+
+from ..arithmetic import library
+from ..errors import RevcError
+from ..operations import Cat, as_bits, is_bits, pair
+from ..trace import one_name
+from ..values import Bits
+from .carries import Carries, best_form, least_depth
+
+Depth = Union[int, str]
+
+
+def budget(depth: Depth, n: int, title: str) -> int:
+    """The most ANDs one behind the other: for "log" it is 2 log2 n + 2."""
+    if depth == "log":
+        return (n * n).bit_length() + 1
+    if not isinstance(depth, int) or isinstance(depth, bool) or depth < 1:
+        raise RevcError(f'{title}: a depth is "log", which is 2 log2 n + 2, or a number from 1 up, and not {depth!r}')
+    return depth
+
+
+def carries(x: List[Bits], y: List[Bits], depth: int, is_all: bool, title: str) -> List[Bits]:
+    """The carries out of the places of x + y, all or the last one alone, at this depth."""
+    n = len(x)
+    form = best_form(n, min(depth, n), is_all)
+    if form is None:
+        raise RevcError(f"{title}: a depth of {depth} is less than there is: give {least_depth(n, is_all)} or more")
+    found = Carries(x, y, form)
+    return found.all() if is_all else [found.last()]
+
+
+@one_name
+def add(x: Bits, y: Any, carry: bool = False, depth: Depth = "log") -> Bits:
+    """x + y at their width, with `carry` one bit wider, by the fewest ANDs that are known at a depth.
+
+    `depth` is how many ANDs are one behind the other at most: a number, or "log" for 2 log2 n + 2.
+    """
+    x, y = pair(x, y, "+") if is_bits(x) else pair(y, x, "+")
+    n = x.width
+    most, places = budget(depth, n, "add"), n if carry else n - 1
+    if not places:
+        return x ^ y
+
+    def body(x: Bits, y: Bits) -> Bits:
+        found = carries(list(x[:places]), list(y[:places]), most, True, "add")
+        sums = [x[0] ^ y[0]] + [x[i] ^ y[i] ^ found[i - 1] for i in range(1, n)]
+        return Cat(sums + found[n - 1:])
+    return library(f"add{'c' * carry}{n}_{most}", [x, y], body)
+
+
+@one_name
+def sub(x: Any, y: Any, borrow: bool = False, depth: Depth = "log") -> Bits:
+    """x - y at their width, with `borrow` one bit wider, which is 1 where x < y; `depth` as in `add`."""
+    x, y = pair(x, y, "-") if is_bits(x) else (as_bits(x, y.width, y), y)
+    total = add(~x, y, borrow, depth)  # x - y is not (not x + y), and the borrow is that sum's carry
+    return Cat(~total[:x.width], total[x.width]) if borrow else ~total
+
+
+@one_name
+def less(x: Any, y: Any, depth: Depth = "log") -> Bits:
+    """Whether x < y, by the fewest ANDs that are known at a depth; `depth` as in `add`."""
+    x, y = pair(x, y, "<") if is_bits(x) else (as_bits(x, y.width, y), y)
+    n, most = x.width, budget(depth, x.width, "less")
+
+    def body(x: Bits, y: Bits) -> Bits:
+        return carries(list(~x), list(y), most, False, "less")[0]
+    return library(f"lt{n}_{most}", [x, y], body)
