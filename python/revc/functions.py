@@ -3,7 +3,7 @@ import functools
 import inspect
 from typing import Any, Callable, Dict, List, Mapping, Sequence, Tuple, TypeVar, cast
 
-from .errors import RevcError, WidthError
+from .errors import KindError, RevcError, WidthError
 from .names import author
 from .places import Const
 from .trace import Node, current
@@ -13,8 +13,8 @@ Shape = Any  # how the values of a result stand in tuples, lists and dicts; None
 Function = TypeVar("Function", bound=Callable[..., Any])
 
 
-def widths(func: Any) -> Dict[str, int]:
-    """The widths that a function's annotations say, as `Bits[8]` or `Annotated[Bits, 8]`."""
+def widths(func: Any) -> Dict[str, Width]:
+    """What a function's annotations say, as `Bits[8]`, `Signed[8]` or `Annotated[Bits, 8]`."""
     space = dict(func.__globals__)
     if func.__closure__:
         cells = [(name, cell) for name, cell in zip(func.__code__.co_freevars, func.__closure__)]
@@ -27,12 +27,13 @@ def widths(func: Any) -> Dict[str, int]:
             except NameError as error:
                 raise RevcError(f"the width {note} of `{name}`: {error} (with `from __future__ import annotations` it has "
                                 "to be known in the module)") from None
-        if getattr(note, "__origin__", None) is Bits:
-            note = Width(note.__metadata__[0])
-        if note is Bits and name != "return":
-            raise RevcError(f"`{name}: Bits` has no width: write {name}: Bits[8]")
+        kind = getattr(note, "__origin__", note)
+        if isinstance(kind, type) and issubclass(kind, Bits):
+            if kind is note and name != "return":
+                raise RevcError(f"`{name}: {kind.__name__}` has no width: write {name}: {kind.__name__}[8]")
+            note = note if kind is note else kind[note.__metadata__[0]]
         if isinstance(note, Width):
-            found[name] = note.width
+            found[name] = note
     return found
 
 
@@ -116,29 +117,33 @@ def traced_call(func: Callable[..., Any], bound: inspect.BoundArguments) -> Any:
 
     def body(nodes: List[Node]) -> Tuple[List[Node], Shape]:
         for name, (at, count, shape) in shapes.items():
-            bound.arguments[name] = unflatten(shape, [Bits(each) for each in nodes[at:at + count]])
+            given = [type(value)(node) for value, node in zip(actual[at:at + count], nodes[at:at + count])]
+            bound.arguments[name] = unflatten(shape, given)
         flat, shape = flatten(func(*bound.args, **bound.kwargs), func.__name__)
-        return [each.node for each in flat], shape
+        return [each.node for each in flat], (shape, [type(each) for each in flat])
     program = current()
     quiet, program.quiet = program.quiet, False
     try:
-        title, results, shape = program.function(func.__name__, params, body)
+        title, results, (shape, kinds) = program.function(func.__name__, params, body)
     finally:
         program.quiet = quiet
     given = [each.node for each in actual] or [Const(0, 1).node]
     whole = Bits(scope().add("call", title, given, sum(each.width for each in results)))
-    return unflatten(shape, cut_results(whole, title, results))
+    return unflatten(shape, [kind(part.node) for kind, part in zip(kinds, cut_results(whole, title, results))])
 
 
 def with_widths(func: Callable[..., Any], arguments: Mapping[str, Any]) -> Dict[str, Any]:
     """The arguments, of which those with a width of their own are Bits of this width."""
     out, known = dict(arguments), widths(func)
     for name in known.keys() & out.keys():
-        if not is_bits(out[name]):
-            out[name] = Const(out[name], known[name])
-        elif out[name].width != known[name]:
-            raise WidthError(f"`{name}` of `{func.__name__}` has {known[name]} bits, and {said(out[name])} "
-                             f"{out[name].width}")
+        value, wanted = out[name], known[name]
+        if not is_bits(value):
+            out[name] = wanted.kind(Const(value, wanted.width).node)
+        elif value.width != wanted.width:
+            raise WidthError(f"`{name}` of `{func.__name__}` has {wanted.width} bits, and {said(value)} {value.width}")
+        elif type(value) is not wanted.kind:
+            raise KindError(f"`{name}` of `{func.__name__}` is {wanted!r}, and {said(value)} "
+                            f"{Width(value.width, type(value))}: as_signed(..) or .as_unsigned() makes both the same")
     return out
 
 

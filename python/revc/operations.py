@@ -5,10 +5,11 @@ from . import texts
 from .errors import KindError, WidthError
 from .places import Cat, Const, as_bits, cut, pair, widen
 from .trace import current, one_name
-from .values import Bits, Operand, bits, is_bits, means, number, said, scope, spelled
+from .values import Bits, Operand, bits, is_bits, like, means, number, plain, said, scope, spelled
 
 __all__ = ["Cat", "Const", "Mux", "add", "as_bits", "bits", "bitwise", "call", "cut", "equal", "inverse", "is_bits", "less",
-           "number", "of_all", "of_bits", "pair", "rotated", "said", "scope", "shifted", "spelled", "sub", "widen"]
+           "like", "number", "of_all", "of_bits", "offset", "pair", "plain", "rotated", "said", "scope", "shifted", "spelled",
+           "sub", "widen"]
 
 
 def call(kind: str, key: texts.Key, args: Sequence[Bits], width: int) -> Bits:
@@ -38,11 +39,21 @@ def bitwise(kind: str, x: Bits, y: Bits) -> Bits:
 
 
 def equal(x: Bits, y: Bits) -> Bits:
+    x, y = plain(x), plain(y)
     return ~(x ^ y) if x.width == 1 else call("eq", x.width, [x, y], 1)
+
+
+def offset(x: Bits) -> Bits:
+    """Signed numbers as unsigned ones in the same order, by another sign; unsigned ones as they are."""
+    if not x.is_signed:
+        return x
+    top, known = Const(1 << x.width - 1, x.width), number(x)
+    return plain(x) ^ top if known is None else Const(known ^ 1 << x.width - 1, x.width)
 
 
 def less(x: Bits, y: Bits) -> Bits:
     """x < y. A constant on the left goes to the right, where its low places cost least."""
+    x, y = offset(x), offset(y)
     if number(x) is not None and number(y) is None:  # k < y where not y < k + 1
         most = (1 << x.width) - 1
         return Const(0, 1) if x.node.data == most else ~less(y, Const(x.node.data + 1, x.width))
@@ -50,7 +61,7 @@ def less(x: Bits, y: Bits) -> Bits:
 
 
 def of_all(kind: str, x: Bits) -> Bits:
-    return x if x.width == 1 else call(kind, x.width, [x], 1)
+    return plain(x) if x.width == 1 else call(kind, x.width, [x], 1)
 
 
 @means("&")
@@ -108,7 +119,7 @@ def all_of(x: Bits) -> Bits:
 
 @means("any")
 def any_of(x: Bits) -> Bits:
-    return x if x.width == 1 else ~of_all("none", x)
+    return plain(x) if x.width == 1 else ~of_all("none", x)
 
 
 @means("xor")
@@ -128,30 +139,39 @@ def both(x: Operand, y: Operand, sign: str) -> Tuple[Bits, Bits]:
     raise WidthError(f"{x!r} {sign} {y!r}: give one of the numbers a width: Const({x!r}, n)")
 
 
+def unsigned(x: Bits, y: Bits, carry: bool) -> Tuple[Bits, Bits]:
+    """Both sides of a sum as unsigned numbers; Signed ones have no carry out of their highest place."""
+    if x.is_signed and carry:
+        raise KindError(f"{said(x)} is Signed, and no carry is part of its sums: widen both sides by a bit")
+    return plain(x), plain(y)
+
+
 @one_name
 def add(x: Operand, y: Operand, carry: bool = False) -> Bits:
     """x + y at their width, with `carry` one bit wider."""
-    x, y = both(x, y, "+")
+    kind, y = both(x, y, "+")
+    x, y = unsigned(kind, y, carry)
     x, y = (y, x) if number(x) is not None else (x, y)
     if number(y) == 0 and not carry:
-        return x
+        return like(kind, x)
     if x.width == 1:
-        return Cat(x ^ y, x & y) if carry else x ^ y
-    return call("addc" if carry else "add", x.width, [x, y], x.width + carry)
+        return Cat(x ^ y, x & y) if carry else like(kind, x ^ y)
+    return like(kind, call("addc" if carry else "add", x.width, [x, y], x.width + carry))
 
 
 @one_name
 def sub(x: Operand, y: Operand, borrow: bool = False) -> Bits:
     """x - y at their width, with `borrow` one bit wider, which is 1 where x < y."""
-    x, y = both(x, y, "-")
+    kind, y = both(x, y, "-")
+    x, y = unsigned(kind, y, borrow)
     if number(x) is not None and number(y) is None:  # k - y is not (y + not k), and the borrow is that sum's carry
         total = add(y, ~x, carry=borrow)
-        return Cat(~total[:x.width], total[x.width]) if borrow else ~total
+        return Cat(~total[:x.width], total[x.width]) if borrow else like(kind, ~total)
     if number(y) == 0 and not borrow:
-        return x
+        return like(kind, x)
     if x.width == 1:
-        return Cat(x ^ y, ~x & y) if borrow else x ^ y
-    return call("subc" if borrow else "sub", x.width, [x, y], x.width + borrow)
+        return Cat(x ^ y, ~x & y) if borrow else like(kind, x ^ y)
+    return like(kind, call("subc" if borrow else "sub", x.width, [x, y], x.width + borrow))
 
 
 @means("+")
@@ -182,8 +202,9 @@ def Mux(c: Bits, x: Operand, y: Operand) -> Bits:
                          "place of it")
     if not is_bits(x) and not is_bits(y):
         raise WidthError(f"Mux(.., {x!r}, {y!r}): give one of the numbers a width: Const({x!r}, n)")
-    x, y = both(x, y, "Mux")
-    return (c & (x ^ y)) ^ y if x.width == 1 else call("mux", x.width, [c, x, y], x.width)
+    kind, y = both(x, y, "Mux")
+    c, x, y = plain(c), plain(kind), plain(y)
+    return like(kind, (c & (x ^ y)) ^ y if x.width == 1 else call("mux", x.width, [c, x, y], x.width))
 
 
 def shifted(x: Bits, k: Operand, sign: str, move: Callable[[Bits, int], Bits]) -> Bits:
@@ -199,6 +220,7 @@ def shifted(x: Bits, k: Operand, sign: str, move: Callable[[Bits, int], Bits]) -
 
 @means("rotate")
 def rotated(x: Bits, k: Operand, sign: int) -> Bits:
+    x = plain(x)
     if isinstance(k, Bits):
         for i in range(k.width):
             x = Mux(k[i], rotated(x, 1 << i, sign), x)
@@ -213,9 +235,9 @@ def rotated(x: Bits, k: Operand, sign: int) -> Bits:
 
 @means("<<")
 def left(x: Bits, k: Operand) -> Bits:
-    return shifted(x, k, "<<", lambda x, n: Cat(Const(0, n), x[:x.width - n]))
+    return shifted(plain(x), k, "<<", lambda x, n: Cat(Const(0, n), x[:x.width - n]))
 
 
 @means(">>")
 def right(x: Bits, k: Operand) -> Bits:
-    return shifted(x, k, ">>", lambda x, n: Cat(x[n:], Const(0, n)))
+    return shifted(plain(x), k, ">>", lambda x, n: Cat(x[n:], Const(0, n)))

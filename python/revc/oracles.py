@@ -12,7 +12,7 @@ from .errors import RevcError, WidthError
 from .functions import flatten, function, holds_bits, result_names, unflatten, widths
 from .sources import Source
 from .trace import Node, Program
-from .values import Bits
+from .values import Bits, Width
 
 PACKAGE = os.path.dirname(os.path.abspath(__file__)) + os.sep
 MOST = 1024  # bits of all parameters, and of all results
@@ -31,7 +31,9 @@ class Oracle(Source):
         trace.programs.append(program)
         try:
             params, known = parameters(func, program)
-            flat, self.shape = flatten(traced(func, {str(each.hint): Bits(each) for each in params}, known), title)
+            self.kinds = widths(func)
+            values = {str(each.hint): self.kinds[str(each.hint)].kind(each) for each in params}
+            flat, self.shape = flatten(traced(func, values, known), title)
             if sum(each.width for each in flat) > MOST:
                 raise WidthError(f"`{title}` returns {sum(each.width for each in flat)} bits: a circuit has at most 1,024 "
                                  "outputs")
@@ -39,6 +41,7 @@ class Oracle(Source):
         finally:
             trace.programs.pop()
         names = result_names(self.shape, flat, title)
+        self.results = [Width(each.width, type(each)) for each in flat]
         super().__init__("\n".join(line for line, _ in lines) + "\n", title,
                          [(str(each.hint), each.width) for each in params],
                          list(zip(names, [each.width for each in flat])), [place for _, place in lines])
@@ -48,8 +51,31 @@ class Oracle(Source):
             return function(self.func)(*args, **named)
         return super().__call__(*args, **named)
 
+    @property
+    def typed(self) -> str:
+        return ", ".join(f"{name}: {self.kinds[name]}" for name, _ in self.params)
+
+    def word(self, numbers: Dict[str, int]) -> str:
+        """The input bits for numbers, those of Signed parameters as two's complement."""
+        bits = {}
+        for name, value in numbers.items():
+            kind = self.kinds.get(name)
+            is_signed, width = kind is not None and kind.kind.is_signed, kind.width if kind else 0
+            if is_signed and not -(1 << width - 1) <= value < 1 << width - 1:
+                raise WidthError(f"{name}={value} does not fit in {width} bits: {-(1 << width - 1)} to {(1 << width - 1) - 1}")
+            bits[name] = value % (1 << width) if is_signed else value
+        return super().word(bits)
+
     def shaped(self, numbers: List[int]) -> Any:
-        return unflatten(self.shape, numbers)
+        return unflatten(self.shape, [read(number, width) for number, width in zip(numbers, self.results)])
+
+    def number(self, name: str, bits: str) -> int:
+        return read(super().number(name, bits), self.kinds[name])
+
+
+def read(number: int, width: Width) -> int:
+    """The number that bits stand for, less than 0 where they are Signed and their sign is set."""
+    return number - (1 << width.width) if width.kind.is_signed and number >> width.width - 1 else number
 
 
 def traced(func: Callable[..., Any], values: Dict[str, Bits], known: Dict[str, Any]) -> Any:
@@ -89,7 +115,7 @@ def parameters(func: Callable[..., Any], program: Program) -> Tuple[List[Node], 
         elif name not in notes:
             raise RevcError(f"`{name}` of `{title}` has no width: write {name}: Bits[8]")
         else:
-            nodes.append(program.scope.parameter(name, notes[name]))
+            nodes.append(program.scope.parameter(name, notes[name].width))
             program.scope.name_of(nodes[-1])
     if not nodes:
         raise RevcError(f"`{title}` has no parameter: a circuit has at least one input, as a: Bits[8]")

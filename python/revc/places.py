@@ -4,7 +4,7 @@ from typing import List, Optional, Sequence, Tuple, Union
 
 from .errors import KindError, KnownLater, PlaceError, RevcError, WidthError
 from .trace import WIDEST, Node, one_name, pack
-from .values import Bits, Operand, bits, means, said, scope, spelled
+from .values import Bits, Operand, bits, like, means, said, scope, spelled
 
 # ---- Numbers and widths
 
@@ -33,18 +33,19 @@ def as_bits(value: Operand, width: int, beside: Optional[Bits] = None) -> Bits:
         value = operator.index(value)
     except TypeError:
         raise KindError(f"{value!r} is neither Bits nor a whole number") from None
-    if not -(1 << width - 1) <= value < 1 << width:
+    is_signed = beside is not None and beside.is_signed
+    if not -(1 << width - 1) <= value < 1 << width - is_signed:
         if beside is None:
             raise WidthError(f"{value} does not fit in {width} bits")
         raise WidthError(f"{value} does not fit in the {width} bits of {said(beside)}: widen({spelled(beside)}, "
-                         f"{value.bit_length() + (value < 0)})")
-    return Const(value, width)
+                         f"{value.bit_length() + (value < 0 or is_signed)})")
+    return Const(value, width) if beside is None else like(beside, Const(value, width))
 
 
 def pair(x: Bits, y: Operand, sign: str) -> Tuple[Bits, Bits]:
     """Both sides of an operator, at one width."""
     if not isinstance(y, Bits):
-        if sign[0] in "=<>" and isinstance(y, int) and y < 0:
+        if sign[0] in "=<>" and isinstance(y, int) and y < 0 and not x.is_signed:
             raise WidthError(f"{said(x)} {sign} {y}: Bits are numbers from 0 up; of two's complement compare "
                              "x ^ (1 << n - 1)")
         y = as_bits(y, x.width, x)
@@ -52,6 +53,10 @@ def pair(x: Bits, y: Operand, sign: str) -> Tuple[Bits, Bits]:
         small, great = (x, y) if x.width < y.width else (y, x)
         raise WidthError(f"{said(x)} {sign} {said(y)}: {said(small)} has {small.width} bits and {said(great)} {great.width}: "
                          f"widen({spelled(small)}, {great.width}) or {spelled(great)}[:{small.width}]")
+    if x.is_signed != y.is_signed:
+        signed, other = (x, y) if x.is_signed else (y, x)
+        raise KindError(f"{said(x)} {sign} {said(y)}: {said(signed)} is Signed and {said(other)} is not: "
+                        f"as_signed({spelled(other)}) or {spelled(signed)}.as_unsigned()")
     return x, y
 
 
@@ -96,10 +101,12 @@ def Cat(*parts: Union[Bits, Sequence[Bits]]) -> Bits:
 
 @one_name
 def widen(x: Bits, width: int) -> Bits:
-    """x with zeros above it, so that it has `width` bits."""
+    """x with zeros above it, or copies of its sign where it is Signed, so that it has `width` bits."""
     if width < x.width:
         raise WidthError(f"widen({spelled(x)}, {width}): it has {x.width} bits: {spelled(x)}[:{width}] takes the lowest")
-    return x if width == x.width else Cat(x, Const(0, width - x.width))
+    if width == x.width:
+        return x
+    return like(x, Cat(x, [x[-1]] * (width - x.width))) if x.is_signed else Cat(x, Const(0, width - x.width))
 
 
 @means("[]")

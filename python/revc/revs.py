@@ -85,9 +85,13 @@ class RevsText:
         """Input bits as `a=8 b=4`, and those of borrowed lines behind them."""
         parts, at = [], 0
         for name, width in self.params:
-            parts.append(f"{name}={int(bits[at:at + width][::-1], 2)}")
+            parts.append(f"{name}={self.number(name, bits[at:at + width])}")
             at += width
         return " ".join(parts + (["borrowed=" + bits[at:]] if bits[at:] else []))
+
+    def number(self, name: str, bits: str) -> int:
+        """The number that the bits of a parameter stand for."""
+        return int(bits[::-1], 2)
 
     def line_names(self) -> List[str]:
         """The names of the lines of inputs and outputs, as `a[0]`."""

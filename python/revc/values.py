@@ -2,7 +2,7 @@
 
 What its operators do stands in the layers above, which enter it here by `means`.
 """
-from typing import Any, Callable, Dict, Iterator, List, NoReturn, Optional, Tuple, TypeVar, Union, cast
+from typing import Any, Callable, Dict, Iterator, List, NoReturn, Optional, Tuple, Type, TypeVar, Union, cast
 
 from .errors import KindError, KnownLater, WidthError
 from .trace import WIDEST, Node, Scope, current, one_name
@@ -11,6 +11,7 @@ Operand = Union["Bits", int]  # a number takes the width of the value beside it
 Function = TypeVar("Function", bound=Callable[..., Any])
 
 MEANS: Dict[str, Callable[..., Any]] = {}
+KEEP = {"~", "&", "^", "|", "+", "-", "from", "<<", "rotate", "put"}  # whose results are Signed where the value is
 
 
 def means(sign: str) -> Callable[[Function], Function]:
@@ -22,19 +23,20 @@ def means(sign: str) -> Callable[[Function], Function]:
 
 
 def apply(sign: str, *args: Any) -> "Bits":
-    return cast("Bits", MEANS[sign](*args))
+    found = cast("Bits", MEANS[sign](*args))
+    return like(args[0], found) if sign in KEEP else found
 
 
 class Width:
-    """`Bits[n]`, the annotation of a parameter of n bits."""
+    """`Bits[n]`, the annotation of a parameter of n bits; `kind` is its class."""
 
-    def __init__(self, width: int):
+    def __init__(self, width: int, kind: "Type[Bits]"):
         if not isinstance(width, int) or isinstance(width, bool) or not 1 <= width <= WIDEST:
-            raise WidthError(f"Bits[{width!r}]: a width is a number from 1 to 4,096")
-        self.width = width
+            raise WidthError(f"{kind.__name__}[{width!r}]: a width is a number from 1 to 4,096")
+        self.width, self.kind = width, kind
 
     def __repr__(self) -> str:
-        return f"Bits[{self.width}]"
+        return f"{self.kind.__name__}[{self.width}]"
 
     def __call__(self, *args: object) -> NoReturn:
         raise KindError(f"{self!r} is a type: write Const(value, {self.width}) for a number")
@@ -47,12 +49,13 @@ class Bits:
     width; a number of Python's takes the width of the value beside it.
     """
     __array_priority__ = 1000  # before numpy's arrays
+    is_signed = False
 
     def __init__(self, node: Node):
         self.node = node
 
     def __class_getitem__(cls, width: int) -> Width:
-        return Width(width)
+        return Width(width, cls)
 
     @property
     def width(self) -> int:
@@ -62,7 +65,7 @@ class Bits:
         return self.node.width
 
     def __repr__(self) -> str:
-        return f"<{said(self)}: Bits[{self.width}]>"
+        return f"<{said(self)}: {Width(self.width, type(self))}>"
 
     def named(self, name: str) -> "Bits":
         """The same value, called `name` in the text."""
@@ -251,6 +254,16 @@ def said(value: object) -> str:
 def spelled(value: Bits) -> str:
     """A value as it stands in a piece of code that helps."""
     return value.node.name or value.node.hint or "(..)"
+
+
+def like(x: Bits, y: Bits) -> Bits:
+    """The bits of y as a value of the class of x."""
+    return y if type(x) is type(y) else type(x)(y.node)
+
+
+def plain(x: Bits) -> Bits:
+    """The bits of a value, which may be Signed, as an unsigned number."""
+    return Bits(x.node) if x.is_signed else x
 
 
 def number(value: Bits) -> Optional[int]:

@@ -17,6 +17,8 @@ from .lookup import lookup
 from .modular import mod_add, mod_double, mod_exp, mod_mul, mod_sub
 from .order import max, min, sort
 from .prefix import add, less, sub
+from .signed import Signed, as_signed
 
-__all__ = ["add", "aes_sbox", "aes_sbox_inverse", "ascon_sbox", "divmod", "keccak_chi", "less", "lookup", "max", "min",
-           "mod_add", "mod_double", "mod_exp", "mod_mul", "mod_sub", "popcount", "present_sbox", "sort", "sub"]
+__all__ = ["Signed", "add", "aes_sbox", "aes_sbox_inverse", "as_signed", "ascon_sbox", "divmod", "keccak_chi", "less",
+           "lookup", "max", "min", "mod_add", "mod_double", "mod_exp", "mod_mul", "mod_sub", "popcount", "present_sbox", "sort",
+           "sub"]

@@ -3,13 +3,13 @@
 The first steps restore: y is taken away where it is not greater, and what is left has as many bits as there were steps.
 Then y is taken away, or added where the last step took too much, in one sum a step, and at the end once more at most.
 """
-from typing import Any, List, Tuple
+from typing import List, Tuple
 
 from ..arithmetic import library, quotient
-from ..errors import RevcError
+from ..errors import KindError, WidthError
 from ..operations import Cat, Const, Mux, add, is_bits, said, sub, widen
 from ..trace import one_name
-from ..values import Bits
+from ..values import Bits, Operand
 
 
 def ands(n: int, w: int, steps: int) -> int:
@@ -47,13 +47,16 @@ def turned(x: Bits, y: Bits, bits: List[Bits], rest: Bits) -> Bits:
 
 
 @one_name
-def divmod(x: Bits, y: Any) -> Tuple[Bits, Bits]:
+def divmod(x: Bits, y: Operand) -> Tuple[Bits, Bits]:
     """The quotient of x by y, at the width of x, and the remainder, at that of y.
 
     What they are where y is 0 is not said: `require(y != 0)` has it proved that this does not happen.
     """
     if not is_bits(x):
-        raise RevcError(f"divmod({x!r}, {said(y)}): give the number a width: Const({x!r}, n)")
+        raise WidthError(f"divmod({x!r}, {said(y)}): give the number a width: Const({x!r}, n)")
+    if x.is_signed or is_bits(y) and y.is_signed:
+        raise KindError(f"divmod({said(x)}, {said(y)}): Signed numbers are divided by their sizes: divmod(abs(..), abs(..)), and "
+                        "the sign is put back")
     if not is_bits(y) or y.node.kind == "const":
         return quotient(x, y)
     n, w = x.width, y.width

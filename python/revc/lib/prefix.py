@@ -1,11 +1,11 @@
 """Sums, differences and comparisons with few ANDs one behind the other. `+`, `-` and `<` take fewer, all in a row."""
-from typing import Any, List, Union
+from typing import List, Union
 
 from ..arithmetic import library
 from ..errors import RevcError
-from ..operations import Cat, as_bits, is_bits, pair
+from ..operations import Cat, both, like, offset, unsigned
 from ..trace import one_name
-from ..values import Bits
+from ..values import Bits, Operand
 from .carries import Carries, best_form, least_depth
 
 Depth = Union[int, str]
@@ -31,36 +31,37 @@ def carries(x: List[Bits], y: List[Bits], depth: int, is_all: bool, title: str) 
 
 
 @one_name
-def add(x: Bits, y: Any, carry: bool = False, depth: Depth = "log") -> Bits:
+def add(x: Operand, y: Operand, carry: bool = False, depth: Depth = "log") -> Bits:
     """x + y at their width, with `carry` one bit wider, by the fewest ANDs that are known at a depth.
 
     `depth` is how many ANDs are one behind the other at most: a number, or "log" for 2 log2 n + 2.
     """
-    x, y = pair(x, y, "+") if is_bits(x) else pair(y, x, "+")
+    kind, y = both(x, y, "+")
+    x, y = unsigned(kind, y, carry)
     n = x.width
     most, places = budget(depth, n, "add"), n if carry else n - 1
     if not places:
-        return x ^ y
+        return like(kind, x ^ y)
 
     def body(x: Bits, y: Bits) -> Bits:
         found = carries(list(x[:places]), list(y[:places]), most, True, "add")
         sums = [x[0] ^ y[0]] + [x[i] ^ y[i] ^ found[i - 1] for i in range(1, n)]
         return Cat(sums + found[n - 1:])
-    return library(f"add{'c' * carry}{n}_{most}", [x, y], body)
+    return like(kind, library(f"add{'c' * carry}{n}_{most}", [x, y], body))
 
 
 @one_name
-def sub(x: Any, y: Any, borrow: bool = False, depth: Depth = "log") -> Bits:
+def sub(x: Operand, y: Operand, borrow: bool = False, depth: Depth = "log") -> Bits:
     """x - y at their width, with `borrow` one bit wider, which is 1 where x < y; `depth` as in `add`."""
-    x, y = pair(x, y, "-") if is_bits(x) else (as_bits(x, y.width, y), y)
+    x, y = both(x, y, "-")
     total = add(~x, y, borrow, depth)  # x - y is not (not x + y), and the borrow is that sum's carry
     return Cat(~total[:x.width], total[x.width]) if borrow else ~total
 
 
 @one_name
-def less(x: Any, y: Any, depth: Depth = "log") -> Bits:
+def less(x: Operand, y: Operand, depth: Depth = "log") -> Bits:
     """Whether x < y, by the fewest ANDs that are known at a depth; `depth` as in `add`."""
-    x, y = pair(x, y, "<") if is_bits(x) else (as_bits(x, y.width, y), y)
+    x, y = map(offset, both(x, y, "<"))
     n, most = x.width, budget(depth, x.width, "less")
 
     def body(x: Bits, y: Bits) -> Bits:
