@@ -210,8 +210,9 @@ class Wheels(unittest.TestCase):
             about = Parser().parsestr(files[record.replace("RECORD", "METADATA")].decode())
             self.assertEqual((about["Name"], about["Version"], about["Requires-Python"]), ("revc", revc.__version__, ">=3.9"))
             self.assertIn("Toffoli gates", about["Keywords"].split(","))
-            self.assertEqual({path.name for path in PACKAGE.iterdir() if path.is_file()},
-                             {path.split("/")[1] for path in files if path.startswith("revc/")})
+            self.assertEqual({str(path.relative_to(PACKAGE.parent)) for path in PACKAGE.rglob("*")
+                              if path.suffix == ".py" or path.name == "py.typed"},
+                             {path for path in files if path.startswith("revc/")})
             code = f"import sys; sys.path.insert(0, {str(Path(folder) / name)!r}); import revc; print(revc.__file__)"
             space = {key: value for key, value in os.environ.items() if key != "PYTHONPATH"}
             found = subprocess.run([sys.executable, "-c", code], env=space, cwd=folder, stdout=subprocess.PIPE, check=True)
