@@ -2,14 +2,14 @@
 
     python3 python/examples/library.py
 """
-from typing import Dict, List, Tuple
+from typing import List, Tuple
 
 from revc import Bits, Oracle, lib, oracle
 
 PRIMES = {8: 251, 16: 65521, 32: 4294967291}  # the greatest of so many bits
 
-# What to write, and for which widths of a and b it is counted. m is a prime of so many bits, k a number below it, `box` a
-# table of the S-box of PRESENT and `digits` one of the segments that show a digit.
+# What to write, and for which widths of a, b, c and d it is counted. m is a prime of so many bits, k is m // 3, and
+# `digits` are the segments that show a digit, of ten entries.
 ROWS: List[Tuple[str, List[int]]] = [
     ("aes_sbox(a)", [8]), ("aes_sbox(a, low_depth=True)", [8]), ("aes_sbox_inverse(a)", [8]),
     ("present_sbox(a)", [4]), ("ascon_sbox(a)", [5]), ("keccak_chi(a)", [5]),
@@ -20,6 +20,7 @@ ROWS: List[Tuple[str, List[int]]] = [
     ("mod_double(a, m)", [8, 16, 32]), ("mod_mul(a, k, m)", [8, 16, 32]), ("mod_mul(a, b, m)", [8, 16, 32]),
     ("mod_exp(k, a, m)", [8, 16]),
     ("max(a, b)", [8, 16, 32]), ("sort(a, b, c, d)", [8, 16, 32]), ("popcount(a)", [8, 16, 32]),
+    ("abs(as_signed(a))", [8, 16, 32]), ("as_signed(a) * as_signed(b)", [8, 16]),
     ("lookup(a, range(0, 500, 5))", [8]), ("lookup(a, digits)", [4]),
 ]
 DIGITS = [0x3f, 0x06, 0x5b, 0x4f, 0x66, 0x6d, 0x7d, 0x07, 0x7f, 0x6f]
@@ -27,15 +28,11 @@ DIGITS = [0x3f, 0x06, 0x5b, 0x4f, 0x66, 0x6d, 0x7d, 0x07, 0x7f, 0x6f]
 
 def written(text: str, n: int) -> Oracle:
     """The oracle of a row, with as many parameters of n bits as it names."""
-    known: Dict[str, object] = dict(vars(lib), m=PRIMES.get(n), k=PRIMES.get(n, 0) // 3, digits=DIGITS)
+    known = dict(vars(lib), m=PRIMES.get(n), k=PRIMES.get(n, 0) // 3, digits=DIGITS)
     names = [name for name in "abcd" if f"{name}," in text or f"{name})" in text]
-
-    def body(**values: Bits) -> object:
-        return eval(text, dict(known, **values))
-    space = dict(Bits=Bits, body=body)
-    exec(f"def {text.split('(')[0]}({', '.join(f'{name}: Bits[{n}]' for name in names)}):\n"
-         f"    return body({', '.join(f'{name}={name}' for name in names)})", space)
-    return oracle(space[text.split("(")[0]])  # type: ignore[arg-type]
+    function = eval(f"lambda {', '.join(names)}: {text}", known)
+    function.__annotations__ = {name: Bits[n] for name in names}
+    return oracle(function)
 
 
 def counted(source: Oracle) -> Tuple[int, int]:

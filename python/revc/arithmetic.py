@@ -3,7 +3,7 @@ import itertools
 from typing import Any, Callable, List, Sequence, Tuple
 
 from .errors import KindError, KnownLater, WidthError
-from .operations import Cat, Const, Mux, add, bits, call, number, said, scope, sub, widen
+from .operations import Cat, Const, Mux, add, bits, call, number, said, scope, spelled, sub, widen
 from .trace import Node, current, one_name
 from .values import Bits, Operand, means
 
@@ -122,7 +122,8 @@ def quotient(x: Bits, d: Operand) -> Tuple[Bits, Bits]:
     if isinstance(d, Bits):
         known = number(d)
         if known is None:
-            raise KnownLater(f"divmod({said(x)}, {said(d)}): only by a number that is known now; of few values make a table")
+            raise KnownLater(f"divmod({said(x)}, {said(d)}): only by a number that is known now: by a value "
+                             "revc.lib has divmod(a, b); of few values make a table")
         d = known
     if not isinstance(d, int) or d < 1:
         raise KindError(f"divmod({said(x)}, {d!r}): by a whole number from 1 up")
@@ -163,7 +164,8 @@ def remainder_alone(x: Bits, d: Operand) -> Bits:
 
 @means("rdivmod")
 def quotient_by_value(x: Bits, other: int) -> Tuple[Bits, Bits]:
-    raise KnownLater(f"{other!r} by {said(x)}: only by a number that is known now; of few values make a table")
+    raise KnownLater(f"{other!r} by {said(x)}: only by a number that is known now: by a value revc.lib has "
+                     f"divmod(Const({other!r}, n), {spelled(x)}); of few values make a table")
 
 
 # ---- Counts

@@ -46,8 +46,8 @@ def pair(x: Bits, y: Operand, sign: str) -> Tuple[Bits, Bits]:
     """Both sides of an operator, at one width."""
     if not isinstance(y, Bits):
         if sign[0] in "=<>" and isinstance(y, int) and y < 0 and not x.is_signed:
-            raise WidthError(f"{said(x)} {sign} {y}: Bits are numbers from 0 up; of two's complement compare "
-                             "x ^ (1 << n - 1)")
+            raise WidthError(f"{said(x)} {sign} {y}: Bits are numbers from 0 up; as_signed(..) of "
+                             "revc.lib has those below")
         y = as_bits(y, x.width, x)
     if x.width != y.width:
         small, great = (x, y) if x.width < y.width else (y, x)

@@ -174,10 +174,10 @@ def rows(case: Case) -> List[Dict[str, int]]:
 
 
 def made(case: Case) -> Oracle:
-    text = ", ".join(f"{name}: Bits[{width}]" for name, width in case.widths.items())
-    space: Dict[str, Any] = dict(Bits=Bits, body=case.body)
-    exec(f"def case({text}):\n    return body({', '.join(case.widths)})", space)
-    return oracle(space["case"])
+    names = ", ".join(case.widths)
+    function = eval(f"lambda {names}: body({names})", dict(body=case.body))
+    function.__annotations__ = {name: Bits[width] for name, width in case.widths.items()}
+    return oracle(function)
 
 
 class Library(unittest.TestCase):
@@ -187,7 +187,8 @@ class Library(unittest.TestCase):
                 source, numbers = made(case), rows(case)
                 found = results(source.compile("pebble"), numbers)
                 wanted = [case.wanted(**row) for row in numbers]
-                self.assertEqual(next(((row, got) for row, got, want in zip(numbers, found, wanted) if got != want), None), None)
+                wrong = [(row, got) for row, got, want in zip(numbers, found, wanted) if got != want]
+                self.assertEqual(wrong[:1], [])
                 ands, depth = counted(source)
                 self.assertEqual((ands, depth), (case.ands, case.depth))
 

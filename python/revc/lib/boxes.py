@@ -7,7 +7,7 @@ from typing import Dict, List, Sequence, Union
 
 from ..arithmetic import library
 from ..errors import WidthError
-from ..operations import Cat, Const, is_bits, said
+from ..operations import Cat, is_bits, said
 from ..trace import one_name
 from ..values import Bits
 

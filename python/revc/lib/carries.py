@@ -7,9 +7,17 @@ depth that is asked for: the first block, which no carry enters, and the last on
 """
 import functools
 import itertools
-from typing import Any, Dict, Iterator, List, NamedTuple, Optional, Sequence, Tuple
+from typing import Any, Dict, Iterator, List, NamedTuple, Optional, Protocol, Sequence, Tuple
 
-Bit = Any  # a bit of a circuit, or a Level
+
+class Bit(Protocol):
+    """A bit of a circuit, or a Level."""
+
+    def __and__(self, other: Any) -> Any: ...
+
+    def __xor__(self, other: Any) -> Any: ...
+
+
 Pair = Tuple[Bit, Bit]  # whether places give a carry, and whether they pass one on
 LARGEST = 8  # places of a block that is neither the first nor the last one
 
@@ -31,16 +39,15 @@ class Form(NamedTuple):
 
 
 class Level:
-    """A bit of which only its depth is known, the ANDs on the longest path to it; `made` counts all ANDs."""
+    """A bit of which only its depth is known, the ANDs on the longest path to it; `ands` are the depths of all ANDs."""
 
-    made = 0
-
-    def __init__(self, depth: int = 0):
-        self.depth = depth
+    def __init__(self, depth: int, ands: List[int]):
+        self.depth, self.ands = depth, ands
 
     def __and__(self, other: "Level") -> "Level":
-        Level.made += 1
-        return Level(max(self.depth, other.depth) + 1)
+        depth = max(self.depth, other.depth) + 1
+        self.ands.append(depth)
+        return Level(depth, self.ands)
 
     def __xor__(self, other: "Level") -> "Level":
         return self if self.depth >= other.depth else other
@@ -150,10 +157,11 @@ class Carries:
 
 def measured(n: int, form: Form, is_all: bool) -> Tuple[int, int]:
     """How many ANDs the carries of n places take, all or the last one alone, and their depth."""
-    Level.made, bits = 0, [Level()] * n
+    ands: List[int] = []
+    bits = [Level(0, ands)] * n
     carries = Carries(bits, bits, form)
     depth = max(each.depth for each in carries.all()) if is_all else carries.last().depth
-    return Level.made, depth
+    return len(ands), depth
 
 
 def forms(n: int, depth: int, is_all: bool) -> Iterator[Tuple[int, Form]]:

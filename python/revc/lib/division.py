@@ -55,8 +55,8 @@ def divmod(x: Bits, y: Operand) -> Tuple[Bits, Bits]:
     if not is_bits(x):
         raise WidthError(f"divmod({x!r}, {said(y)}): give the number a width: Const({x!r}, n)")
     if x.is_signed or is_bits(y) and y.is_signed:
-        raise KindError(f"divmod({said(x)}, {said(y)}): Signed numbers are divided by their sizes: divmod(abs(..), abs(..)), and "
-                        "the sign is put back")
+        raise KindError(f"divmod({said(x)}, {said(y)}): Signed numbers are divided by their sizes: divmod(abs(..), abs(..)), "
+                        "and the sign is put back")
     if not is_bits(y) or y.node.kind == "const":
         return quotient(x, y)
     n, w = x.width, y.width

@@ -2,7 +2,7 @@
 from typing import Optional
 
 from ..completions import Entries
-from ..errors import RevcError
+from ..errors import WidthError
 from ..operations import Const
 from ..tables import table
 from ..trace import one_name
@@ -20,7 +20,7 @@ def lookup(x: Bits, values: Entries, width: Optional[int] = None) -> Bits:
     values = list(values)
     count = len(values)
     if not 1 <= count <= 1 << x.width:
-        raise RevcError(f"lookup(..): {count} entries, and a number of {x.width} bits chooses among {1 << x.width}")
+        raise WidthError(f"lookup(..): {count} entries, and a number of {x.width} bits chooses among {1 << x.width}")
     k = (count - 1).bit_length()
     known = [value for value in values if value is not None] or [0]
     if len(set(known)) == 1:

@@ -6,8 +6,8 @@ first and brought below m at the end.
 from typing import Callable, Iterator, List, NamedTuple, Sequence, Tuple, Union
 
 from ..arithmetic import library
-from ..errors import RevcError, WidthError
-from ..operations import Cat, Const, add, as_bits, is_bits, number, said, sub, widen
+from ..errors import KindError, WidthError
+from ..operations import Cat, Const, add, is_bits, number, said, sub, widen
 from ..tables import table
 from ..trace import one_name
 from ..values import Bits
@@ -26,7 +26,7 @@ class Term(NamedTuple):
 def residue(x: Number, m: int, width: int, title: str) -> Bits:
     """x as one of the numbers below m, in as many bits as these have."""
     if not isinstance(m, int) or isinstance(m, bool) or m < 2:
-        raise RevcError(f"{title}: the modulus is a number from 2 up that is known now, and not {said(m)}")
+        raise KindError(f"{title}: the modulus is a number from 2 up that is known now, and not {said(m)}")
     w = (m - 1).bit_length()
     if not is_bits(x):
         return Const(as_known(x, title) % m, w)
@@ -38,14 +38,14 @@ def residue(x: Number, m: int, width: int, title: str) -> Bits:
 
 def as_known(x: Number, title: str) -> int:
     if not isinstance(x, int):
-        raise RevcError(f"{title}: {said(x)} is neither Bits nor a whole number")
+        raise KindError(f"{title}: {said(x)} is neither Bits nor a whole number")
     return x
 
 
 def both(x: Number, y: Number, m: int, title: str) -> Tuple[Bits, Bits]:
     """Both sides of an operation, of which one is Bits at least."""
     if not is_bits(x) and not is_bits(y):
-        raise RevcError(f"{title}: of numbers that are known Python computes it: one side has to be Bits")
+        raise KindError(f"{title}: of numbers that are known Python computes it: one side has to be Bits")
     width = (x if is_bits(x) else y).width
     one = residue(x, m, width, title)
     return one, one if x is y else residue(y, m, width, title)
@@ -186,7 +186,7 @@ def mod_mul(x: Number, y: Number, m: int) -> Bits:
 def mod_exp(base: int, exponent: Bits, m: int) -> Bits:
     """(base ** exponent) % m of a base that is known, in as many bits as numbers below m have; by tables of powers."""
     if is_bits(base) or not is_bits(exponent):
-        raise RevcError("mod_exp(base, exponent, m): the base is a number that is known now, and the exponent Bits")
+        raise KindError("mod_exp(base, exponent, m): the base is a number that is known now, and the exponent Bits")
     w = residue(base, m, 0, "mod_exp").width
     product = 2 * w * w - w + residue_ands(w, 1, w, 4)
     size = min(range(1, WINDOW + 1), key=lambda size: (exponent.width // size * table_ands(size, w)

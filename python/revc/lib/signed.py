@@ -62,8 +62,8 @@ class Signed(Bits):
     __rmul__ = __mul__
 
     def __divmod__(self, other: object) -> NoReturn:
-        raise KindError(f"divmod({said(self)}, ..): Signed numbers are divided by their sizes: divmod(abs(..), abs(..)), and "
-                        "the sign is put back")
+        raise KindError(f"divmod({said(self)}, ..): Signed numbers are divided by their sizes: divmod(abs(..), abs(..)), "
+                        "and the sign is put back")
 
     __floordiv__ = __mod__ = __rdivmod__ = __rfloordiv__ = __rmod__ = __divmod__
 
