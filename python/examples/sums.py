@@ -1,4 +1,4 @@
-from revc import Bits, lib, oracle
+from revc import Bits, clean, lib, oracle
 
 @oracle
 def in_a_row(a: Bits[32], b: Bits[32]):
@@ -7,3 +7,9 @@ def in_a_row(a: Bits[32], b: Bits[32]):
 @oracle
 def by_prefixes(a: Bits[32], b: Bits[32]):
     return lib.add(a, b)
+
+@oracle
+def same(x: Bits[64]):
+    a, b = x[::2], x[1::2]
+    clean(lib.add(a, b) ^ (a + b))
+    return x

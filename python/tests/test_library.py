@@ -6,7 +6,7 @@ from pathlib import Path
 from random import Random
 from typing import Any, Callable, Dict, List, NamedTuple
 
-from revc import Bits, Cat, Oracle, RevcError, lib, oracle
+from revc import Bits, Cat, Oracle, RevcError, add, clean, lib, oracle, require, table, widen
 from simulation import results
 
 sys.path.insert(0, str(Path(__file__).resolve().parent.parent / "examples"))
@@ -211,6 +211,36 @@ class Library(unittest.TestCase):
         self.assertEqual(named.out, [("quotient", 8), ("rest", 8)])
         self.assertIn("let total = ", named.text)
         self.assertTrue(all(place is None or place[0] == __file__ for place in named.places))
+
+
+class Proved(unittest.TestCase):
+    """What the program proves for all inputs: that two forms agree, and what a quotient is."""
+
+    def test_sums(self) -> None:
+        @oracle
+        def sums(x: Bits[64]):
+            a, b = x[::2], x[1::2]
+            clean(lib.add(a, b, carry=True, depth=7) ^ add(a, b, carry=True))
+            clean(lib.sub(a, b) ^ (a - b))
+            clean(lib.less(a, b, depth=6) ^ (a < b))
+            return x
+        self.assertEqual(sums.check(), 66)
+
+    def test_quotients(self) -> None:
+        @oracle
+        def quotient(a: Bits[6], b: Bits[6]):
+            q, rest = lib.divmod(a, b)
+            require((b == 0) | ((q * b + widen(rest, 12) == widen(a, 12)) & (rest < b)))
+            return q
+        self.assertEqual(quotient.check(), 1)
+
+    def test_boxes(self) -> None:
+        @oracle
+        def boxes(x: Bits[8]):
+            clean(lib.aes_sbox_inverse(lib.aes_sbox(x)) ^ x)
+            clean(lib.aes_sbox(x, low_depth=True) ^ table(x, AES))
+            return x
+        self.assertEqual(boxes.check(), 16)
 
 
 REFUSED = [
