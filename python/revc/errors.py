@@ -6,6 +6,8 @@ range an `IndexError`, what is known later a `TypeError`); those of the program 
 import re
 from typing import Callable, List, Optional, Tuple
 
+NO_CIRCUIT = 8  # the status of a file that is no circuit
+
 
 class RevcError(Exception):
     """What was refused, and what to write instead."""
@@ -25,14 +27,6 @@ class KindError(RevcError, TypeError):
 
 class KnownLater(KindError):
     """A value that is known only when the circuit runs, where Python wants to know it now."""
-
-
-class ReadError(RevcError, ValueError):
-    """A circuit's text that this package does not read: at this line and column, counted from 1."""
-
-    def __init__(self, explained: str, line: int, column: int):
-        super().__init__(explained)
-        self.line, self.column = line, column
 
 
 class TimedOut(RevcError, TimeoutError):
@@ -87,6 +81,17 @@ class CircuitRefused(Refused):
     """The file is no circuit, or none that `verify` takes: at this line, and column where it is OpenQASM (else 0)."""
     line: int
     column: int
+
+
+class ReadError(CircuitRefused, ValueError):
+    """The file is no circuit for this package, which reads more than the program: at this line and column."""
+
+    def __init__(self, explained: str, line: int, column: int):
+        super().__init__(explained, explained.split("\n")[0], NO_CIRCUIT)
+        self.line, self.column = line, column
+
+    def __reduce__(self) -> Tuple[Callable[..., Refused], Tuple[str, int, int]]:  # type: ignore[override]
+        return ReadError, (str(self), self.line, self.column)
 
 
 class CircuitDiffers(Refused):

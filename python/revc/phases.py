@@ -3,7 +3,7 @@ import math
 from fractions import Fraction
 from typing import Sequence
 
-from .errors import RevcError, WidthError
+from .errors import ReadError, RevcError, WidthError
 from .circuit_texts import qasm_gate, qasm_head
 from .gates import Gate
 from .qasm_tokens import Tokens
@@ -48,10 +48,12 @@ def turn(angle: float, line: str, version: int) -> str:
 
 def angle_of(word: str) -> float:
     """An angle from a word of the command, as `pi/4` or `0.5`."""
-    angles = Angles(Tokens(word, "--weights"))
-    angle = angles.value()
-    if angles.tokens.next.kind != "end":
-        angles.tokens.refuse("an angle is a number, or a part of pi as `3*pi/4`", angles.tokens.next)
+    try:
+        angles = Angles(Tokens(word))
+        angle = angles.value()
+        angles.tokens.want("")
+    except ReadError:
+        raise RevcError(f"{word.strip()}: an angle is a number in radians, or a part of pi as `3*pi/4`") from None
     return angle
 
 

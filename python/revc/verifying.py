@@ -33,11 +33,9 @@ def verify_text(program: RevsText, text: str, lines: Optional[Lines], borrow: in
     if lines is None and is_in_order(program, text):
         try:
             return asks(program, text, borrow)
-        except CircuitRefused:
-            if form_of(text) == "real":
-                raise
         except Refused as refusal:
-            if refusal.status != NO_PLAIN_GATE:
+            is_read_here = isinstance(refusal, CircuitRefused) and form_of(text) == "qasm"
+            if not is_read_here and refusal.status != NO_PLAIN_GATE:
                 raise
     return verify_netlist(program, read_text(text, name), lines, borrow, asks)
 

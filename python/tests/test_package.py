@@ -62,6 +62,7 @@ OF_THE_PROGRAM: List[Tuple[Callable[[], Any], str, dict]] = [
     (lambda: Source(AND).compile(lines=2), "LinesExceeded", dict(need=3, limit=2, status=6)),
     (lambda: Source("main (a : bool[3]) = a.[0] && a.[1] && a.[2]").compile(gates=1), "GatesExceeded", dict(limit=1, status=7)),
     (lambda: Source(AND).verify("nothing"), "CircuitRefused", dict(line=1, column=0, status=8)),
+    (lambda: Source(AND).verify("OPENQASM 2.0; qreg q[3]; h q;"), "ReadError", dict(line=1, column=26, status=8)),
     (lambda: Source(AND).verify(WRONG), "CircuitDiffers", dict(line=3, inputs="11", status=15)),
     (lambda: Source(AND).verify(WRONG, by="sums"), "Unsettled", dict(status=17)),
 ]
