@@ -9,7 +9,7 @@ from . import program
 from .circuit_texts import FILES, ending_of, qasm_text, real_text
 from .counting import Cost, cost_of
 from .defaults import NODES, WAY
-from .drawing import Drawing, Picture
+from .drawing import COLUMNS, SHOWN_GATES, SHOWN_LINES, Drawing, Picture
 from .errors import RevcError
 from .line_names import lines_by_role
 from .maps import OUT, Lines
@@ -20,8 +20,6 @@ from .real import GateList, read_real
 from .revs import RevsText
 
 WORDS = 100000  # letters of input words that one call of `run` gets
-SHOWN_GATES, SHOWN_LINES = 1500, 200  # up to which a notebook shows the picture of a circuit
-COLUMNS = 60  # gates side by side in a picture, then it goes on below
 
 
 class Circuit:

@@ -4,18 +4,17 @@ import sys
 from typing import Any, Callable, Dict, List, NoReturn, Optional, Tuple
 
 from .circuit_texts import FILES, ending_of
-from .circuits import COLUMNS, Circuit
+from .circuits import Circuit
 from .costs import BY, COUNTS
 from .counting import depths, t_gates
 from .defaults import DEFAULTS
-from .drawing import Drawing
+from .drawing import COLUMNS
 from .equality import equal
 from .errors import RevcError
 from .files import circuit_text, converted, format_of, is_circuit, numbers, on_circuit, source_of, write
 from .maps import by_left, lines_from, pairs_of
 from .netlists import read_text
 from .phases import FORMS, angle_of
-from .real import GateList
 from .verifying import asking, verify_text
 
 
@@ -92,9 +91,7 @@ def do_convert(options: argparse.Namespace) -> None:
 def do_draw(options: argparse.Namespace) -> None:
     format_of(options.output, None, "svg", (".svg",), "a picture is written")
     if is_circuit(options.file):
-        netlist = read_text(circuit_text(options.file), options.file)
-        circuit = GateList(list(netlist.names), netlist.marks, list(netlist.gates))
-        write(Drawing(circuit, columns=options.columns).svg(), options.output)
+        write(read_text(circuit_text(options.file), options.file).draw(columns=options.columns), options.output)
     else:
         write(source_of(options.file).compile(options.plan, options.lines).draw(columns=options.columns), options.output)
 

@@ -10,6 +10,8 @@ STEP, PITCH = 20, 24  # from column to column, and from line to line
 DOT, RING = 4, 7  # how great a control and a target are
 LETTER = 8  # how wide a letter is
 MARGIN = 12
+COLUMNS = 60  # gates side by side in a picture, then it goes on below
+SHOWN_GATES, SHOWN_LINES = 1500, 200  # up to which a notebook shows the picture of a circuit
 STYLE = ("line, circle { stroke: #1b1b1b; stroke-width: 1.4 } .open, .target { fill: #ffffff }"
          " text { font: 13px monospace; fill: #1b1b1b }")
 

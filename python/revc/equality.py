@@ -8,7 +8,7 @@ from .line_names import base_of, lines_of, registers
 from .netlists import HasNetlist, Netlist, key_of
 from .revs import RevsText
 from .transforms import flip, moved, ran
-from .verifying import MOST, asking
+from .verifying import MOST, Asks, asking
 
 LONGEST = 1048576  # bytes of a program
 HEAD = "let n a = a <- true <> a; let c a b = b <- b <> a; let t a b c = c <- c <> a && b;"
@@ -176,12 +176,21 @@ def equal(one: HasNetlist, other: HasNetlist, lines: Optional[Mapping[str, str]]
     """
     asks, one, other = asking(nodes, by, timeout), one.netlist, other.netlist
     circuits = shared(one, other, lines or {}, zeros)
-    for pairs, what in ((circuits.free, "lines that start as anything"), (circuits.compared, "lines that are compared")):
-        if not 0 < len(pairs) <= MOST:
-            raise RevcError(f"the circuits have {len(pairs):,} {what}: 1 to {MOST:,} are taken")
+    if not 0 < len(circuits.free) <= MOST:
+        raise RevcError(f"the circuits have {len(circuits.free):,} lines that start as anything: 1 to {MOST:,} are taken")
+    if not circuits.compared:
+        raise RevcError("no line of the circuits is compared: by the marks of their files all are garbage")
     swapped = len(one.gates) > len(other.gates)
     if swapped:
         circuits = Circuits(other, one, [Pair(pair.other, pair.one, pair.mark, pair.is_compared) for pair in circuits.pairs])
+    for at in range(0, len(circuits.compared), MOST):
+        some = set(circuits.compared[at:at + MOST])
+        prove(circuits._replace(pairs=[pair._replace(is_compared=pair in some) for pair in circuits.pairs]), asks, swapped)
+    return "equal"
+
+
+def prove(circuits: Circuits, asks: Asks, swapped: bool) -> None:
+    """Asks `verify` about the lines that are compared, at most 1,024; `swapped` is for what is said of a difference."""
     ready = circuit_of(circuits)
     plain = ready.split()
     try:
@@ -189,7 +198,6 @@ def equal(one: HasNetlist, other: HasNetlist, lines: Optional[Mapping[str, str]]
     except CircuitDiffers as refusal:
         place = refusal.line - 1 - len(circuits.free)
         raise refused(refusal.message, refusal.status, differing(circuits, place, refusal.inputs, swapped)) from None
-    return "equal"
 
 
 def differing(circuits: Circuits, place: int, bits: str, swapped: bool) -> str:

@@ -84,7 +84,8 @@ def by_left(pairs: Sequence[Tuple[str, str]]) -> Dict[str, str]:
 
 
 def mapped(lines: Lines, signature: Signature, registers: Mapping[str, List[int]], count: int) -> LineMap:
-    """The lines that a map names, of a circuit with these registers and so many lines in all."""
+    """The lines that a map names, of a circuit with these registers and so many lines in all. Of parameters and results that
+    it leaves out the lines are those of registers of their names."""
     places = signature.places()
     of_place: Dict[int, int] = {}
     borrowed: List[int] = []
@@ -97,6 +98,21 @@ def mapped(lines: Lines, signature: Signature, registers: Mapping[str, List[int]
         if len(wanted) != len(found):
             raise WidthError(f"`{name}` has {len(wanted)} bits, and `{piece}` {len(found)} lines")
         of_place.update(zip(wanted, found))
+    for name in places:
+        register = named(name, len(places[name]), registers)
+        if register is not None and not any(place in of_place for place in places[name]):
+            of_place.update(zip(places[name], registers[register]))
+    return checked(signature, of_place, borrowed, registers, count)
+
+
+def named(name: str, width: int, registers: Mapping[str, List[int]]) -> Optional[str]:
+    """The register of this name and width, also where it is written as OpenQASM wants it."""
+    return next((each for each in (name, qasm_name(name)) if len(registers.get(each, [])) == width), None)
+
+
+def checked(signature: Signature, of_place: Mapping[int, int], borrowed: List[int], registers: Mapping[str, List[int]],
+            count: int) -> LineMap:
+    """The map with all other lines as work lines; each bit has a line, and no line two parts but in place."""
     total = signature.inputs + sum(width for _, width in signature.out)
     missing = [signature.bit(place) for place in range(total) if place not in of_place]
     if missing:
@@ -109,8 +125,8 @@ def mapped(lines: Lines, signature: Signature, registers: Mapping[str, List[int]
             line = next(line for line in each if each.count(line) > 1)
             name = next(name for name, found in registers.items() if line in found)
             raise RevcError(f"the map takes `{name}[{registers[name].index(line)}]` twice")
-    named = {*inputs, *outputs, *borrowed}
-    return LineMap(inputs, outputs, [line for line in range(count) if line not in named], borrowed)
+    apart = {*inputs, *outputs, *borrowed}
+    return LineMap(inputs, outputs, [line for line in range(count) if line not in apart], borrowed)
 
 
 def found_by_names(signature: Signature, registers: Mapping[str, List[int]]) -> Optional[Dict[str, str]]:
@@ -118,15 +134,13 @@ def found_by_names(signature: Signature, registers: Mapping[str, List[int]]) -> 
 
     The outputs are the registers of all results, or one that is called `out` or `outp`.
     """
-    def named(name: str, width: int) -> Optional[str]:
-        return next((each for each in (name, qasm_name(name)) if len(registers.get(each, [])) == width), None)
     found: Dict[str, str] = {}
     for name, width in signature.params:
-        register = named(name, width)
+        register = named(name, width, registers)
         if register is None:
             return None
         found[name] = register
-    results = {name: named(name, width) for name, width in signature.out}
+    results = {name: named(name, width, registers) for name, width in signature.out}
     known = {name: register for name, register in results.items() if register is not None and name not in found}
     if len(known) == len(signature.out):
         return {**found, **known}

@@ -2,15 +2,16 @@
 from dataclasses import dataclass, replace
 from functools import cached_property
 from pathlib import Path
-from typing import Dict, List, Mapping, Optional, Protocol, Tuple
+from typing import Dict, List, Mapping, Optional, Protocol, Tuple, overload
 
 from . import program
+from .drawing import COLUMNS, SHOWN_GATES, SHOWN_LINES, Drawing, Picture
 from .errors import RevcError, WidthError
 from .circuit_texts import FILES, ending_of, qasm_text, real_text
 from .gates import Gate
 from .line_names import base_of, cut, lines_of, pieces, registers
 from .openqasm import read_openqasm
-from .real import form_of, read_real
+from .real import GateList, form_of, read_real
 from .transforms import controlled, is_plain, moved
 
 SPARE = "spare"  # the line that a split may add, which holds anything and comes back
@@ -77,8 +78,24 @@ class Netlist:
         return qasm_text(self.names, self.gates, 3)
 
     def save(self, path: str) -> None:
-        """Write the file: `.real`, `.qasm` or `.qasm3` by its name."""
-        Path(path).write_text(getattr(self, ending_of(path, FILES, "a circuit is written")[1:]))
+        """Write the file: `.real`, `.qasm`, `.qasm3` or the picture `.svg` by its name."""
+        kind = ending_of(path, (*FILES, ".svg"), "a circuit is written")
+        Path(path).write_text(self.draw() if kind == ".svg" else getattr(self, kind[1:]))
+
+    @overload
+    def draw(self, path: str, columns: int = COLUMNS) -> None: ...
+
+    @overload
+    def draw(self, path: None = None, columns: int = COLUMNS) -> Picture: ...
+
+    def draw(self, path: Optional[str] = None, columns: int = COLUMNS) -> Optional[Picture]:
+        """The circuit as SVG, in rows of so many columns; or it is written to the file `path`."""
+        picture = Drawing(GateList(list(self.names), self.marks, list(self.gates)), columns=columns).svg()
+        return picture.write(path) if path else picture
+
+    def _repr_svg_(self) -> Optional[str]:
+        """What a notebook shows of a small circuit."""
+        return self.draw() if len(self.gates) <= SHOWN_GATES and self.lines <= SHOWN_LINES else None
 
     def split(self) -> "Netlist":
         """The same by X, CX and CCX gates, which `revc convert` makes of it.

@@ -1,14 +1,16 @@
 """OpenQASM 2 and 3 read as a circuit of gates that permute bits."""
+import re
 from typing import Callable, Dict, List, Optional, Set
 
 from .gates import Gate
-from .qasm_gates import Gates
+from .qasm_gates import Gates, named
 from .qasm_numbers import Numbers
 from .qasm_tokens import Token, Tokens
 from .real import GateList
 from .transforms import moved
 
 MOST_LINES = 16384
+PLAIN = re.compile(r"\s*([A-Za-z]\w*)\s([^;@(){}=:/\"]*);")  # a gate on lines, and no comment
 TYPES = ("int", "uint", "const")
 BITS = ("creg", "bit", "bool", "float", "angle", "complex", "duration", "output")  # what they declare changes no line
 REFUSED: Dict[str, str] = {
@@ -32,6 +34,7 @@ class Reader:
         self.numbers = Numbers(self.tokens)
         self.known = Gates(self.tokens, self.numbers)
         self.names: List[str] = []
+        self.line_of: Dict[str, int] = {}
         self.registers: Dict[str, List[int]] = {}
         self.measured: Set[str] = set()
         self.gates: List[Gate] = []
@@ -42,11 +45,27 @@ class Reader:
             **dict.fromkeys(BITS, self.bits)}
 
     def read(self) -> GateList:
+        self.plain_gates()
         while self.tokens.next.kind != "end":
             self.statement()
+            self.plain_gates()
         if not self.names:
             self.tokens.refuse("no lines are declared: `qreg q[4];`, in OpenQASM 3 `qubit[4] q;`", self.tokens.next)
+        self.known.count(self.gates, self.tokens.next)
         return GateList(self.names, "-" * len(self.names), self.gates)
+
+    def plain_gates(self) -> None:
+        """Takes known gates on single lines, of which a file has most, without their tokens, up to another statement."""
+        tokens = self.tokens
+        found = PLAIN.match(tokens.text, tokens.at) if tokens.place == len(tokens.all) else None
+        while found is not None and found[1] not in self.known.definitions:
+            lines = [self.line_of.get(operand) for operand in "".join(found[2].split()).split(",")]
+            gates = named(found[1], len(lines))
+            if gates is None or None in lines or len(set(lines)) < len(lines):
+                return  # which is read, or refused, by its tokens
+            self.gates += moved(gates, [line for line in lines if line is not None])
+            tokens.at = found.end()
+            found = PLAIN.match(tokens.text, tokens.at)
 
     def statement(self) -> None:
         token = self.tokens.next
@@ -96,13 +115,18 @@ class Reader:
         token = self.tokens.word("a name for the lines")
         size = self.size() if size is None else size
         self.tokens.want(";")
-        if token.text in self.registers:
-            self.tokens.refuse(f"`{token.text}` is declared twice", token)
+        self.check_new(token)
         count = 1 if size is None else size
         if len(self.names) + count > MOST_LINES:
             self.tokens.refuse(f"the lines pass {MOST_LINES:,}, the most that a circuit has", token)
         self.registers[token.text] = list(range(len(self.names), len(self.names) + count))
-        self.names += [token.text] if size is None else [f"{token.text}[{i}]" for i in range(count)]
+        names = [token.text] if size is None else [f"{token.text}[{i}]" for i in range(count)]
+        self.line_of.update((name, len(self.names) + i) for i, name in enumerate(names))
+        self.names += names
+
+    def check_new(self, token: Token) -> None:
+        if token.text in self.registers:
+            self.tokens.refuse(f"`{token.text}` is declared twice", token)
 
     def size(self) -> Optional[int]:
         """The `[4]` of a declaration, where one stands."""
@@ -122,6 +146,7 @@ class Reader:
         while self.tokens.takes("++"):
             lines = lines + self.operand()
         self.tokens.want(";")
+        self.check_new(token)
         self.registers[token.text] = lines
 
     def operand(self) -> List[int]:

@@ -22,33 +22,40 @@ class Token(NamedTuple):
 
 
 class Tokens:
-    """The tokens of a text, one after another. `place` is that of the next one."""
+    """The tokens of a text, one after another: `all` of them that were looked at, of which `place` is the next one, and
+    `at` where the text goes on behind them."""
 
     def __init__(self, text: str, name: str = "circuit"):
-        self.text, self.name, self.place = text, name, 0
+        self.text, self.name, self.place, self.at = text, name, 0, 0
         self.all: List[Token] = []
-        at = 0
-        while at < len(text):
-            found = TOKEN.match(text, at)
+
+    def find(self) -> None:
+        """Adds one more token."""
+        while self.at < len(self.text):
+            found = TOKEN.match(self.text, self.at)
             if found is None:
-                self.refuse(f"no token begins with `{text[at]}`", Token("sign", text[at], at))
+                self.refuse(f"no token begins with `{self.text[self.at]}`", Token("sign", self.text[self.at], self.at))
+            begin, self.at = self.at, found.end()
             if found.lastgroup != "blank":
-                self.all.append(Token(found.lastgroup or "", found[0], at))
-            at = found.end()
-        self.all.append(Token("end", "", len(text)))
+                self.all.append(Token(found.lastgroup or "", found[0], begin))
+                return
+        self.all.append(Token("end", "", len(self.text)))
 
     @property
     def next(self) -> Token:
+        if self.place == len(self.all):
+            self.find()
         return self.all[self.place]
 
     def take(self) -> Token:
-        token = self.all[self.place]
+        token = self.next
         self.place += token.kind != "end"
         return token
 
     def takes(self, text: str) -> bool:
         """Whether the next token is this one, which is taken then."""
-        if self.all[self.place].text != text or self.all[self.place].kind == "end":
+        token = self.next
+        if token.text != text or token.kind == "end":
             return False
         self.place += 1
         return True

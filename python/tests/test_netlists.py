@@ -49,6 +49,7 @@ t5 x0 x1 y0 y1 p3
 # Maps of the Cuccaro adder that are refused: the map and what is said.
 MAPS: List[Tuple[Dict[str, str], str]] = [
     ({"a": "a", "b": "b"}, "the map has no line for adder[0], adder[1]"),
+    ({"a": "a", "b": "b", "out": "b[0:3], cout", "adder[3]": "b[3]"}, "`out` has 5 bits, and `b[0:3], cout` 4 lines"),
     ({"a": "q", "b": "b", "out": "b, cout"}, "the circuit has no register `q`: it has cin[1], a[4], b[4], cout[1]"),
     ({"a": "a[0:3]", "b": "b", "out": "b, cout"}, "`a` has 4 bits, and `a[0:3]` 3 lines"),
     ({"a": "a[0:5]", "b": "b", "out": "b, cout"}, "`a[0:5]`: `a` has 4 lines"),
@@ -129,6 +130,7 @@ class AgainstPrograms(unittest.TestCase):
         lines = {"a": "a", "b": "b", "out": "b, cout"}
         self.assertEqual(adder.verify(read_text(ADDER), lines=lines), "verified")
         self.assertEqual(adder.verify(ADDER, lines=lines), "verified")
+        self.assertEqual(adder.verify(ADDER, lines={"out": "b, cout"}), "verified")  # a and b by their names
         for wrong, line in (("x a[0];", "a[0]"), ("cx a[1], cin[0];", "cin[0]"), ("ccx a[0], a[1], b[3];", "b[3]"),
                             ("x cout;", "cout")):
             with self.assertRaises(CircuitDiffers) as refused:
@@ -257,7 +259,8 @@ class AllKindsOfLines(unittest.TestCase):
             one = random_netlist(random, shared + own[0], mark_of, random.randint(0, 3))
             other = random_netlist(random, shared + own[1], mark_of, random.randint(0, 2))
             if not own[1] and random.random() < 0.7:
-                other = one.then(replace(other, gates=other.gates + other.gates[::-1] if random.random() < 0.5 else other.gates))
+                back = other.gates[::-1] if random.random() < 0.5 else ()
+                other = one.then(replace(other, gates=other.gates + back))
             free = [name for name, mark in mark_of.items() if mark == "-"]
             garbage = {name for each in (one, other) for name, mark in zip(each.names, each.garbage) if mark == "1"}
             if not free or len(garbage) == len(mark_of):
@@ -304,6 +307,7 @@ class Files(unittest.TestCase):
     def test_a_file(self) -> None:
         with self.assertRaisesRegex(RevcError, "nowhere.qasm is no circuit's file"):
             read("nowhere.qasm")
+        self.assertIn(">cout</text>", read_text(ADDER).draw())
         for save in (product.compile().save, read_text(ADDER).save):
             with self.assertRaisesRegex(RevcError, r"z.txt: a circuit is written as .real, .qasm"):
                 save("z.txt")
