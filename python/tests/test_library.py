@@ -213,6 +213,22 @@ class Library(unittest.TestCase):
         self.assertTrue(all(place is None or place[0] == __file__ for place in named.places))
 
 
+class Compiled(unittest.TestCase):
+    def test_depths(self) -> None:
+        """Circuits have of the text's depth what the order of their gates leaves: a carry that many gates read delays them."""
+        @oracle
+        def in_a_row(a: Bits[32], b: Bits[32]):
+            return a + b
+
+        @oracle
+        def by_prefixes(a: Bits[32], b: Bits[32]):
+            return lib.add(a, b)
+        for plan, deep in (("lean", 35), ("compact", 28)):
+            cost = by_prefixes.compile(plan).cost
+            self.assertLessEqual(cost.toffoli_depth, deep)
+            self.assertLess(cost.toffoli_depth, in_a_row.compile(plan).cost.toffoli_depth)
+
+
 class Proved(unittest.TestCase):
     """What the program proves for all inputs: that two forms agree, and what a quotient is."""
 
@@ -258,6 +274,11 @@ REFUSED = [
     (lambda a, b: lib.mod_exp(a, b, 7), "mod_exp(base, exponent, m): the base is a number that is known now"),
     (lambda a, b: lib.max(a, 7), "max: Bits are wanted, or a list of them"),
     (lambda a, b: lib.sort(a, b[:7]), "sort: all values have one width"),
+    (lambda a, b: lib.max(7), "max: Bits are wanted, or a list of them"),
+    (lambda a, b: lib.sort(), "sort: Bits are wanted, or a list of them"),
+    (lambda a, b: lib.keccak_chi(7), "keccak_chi: words of one width are wanted, or a number"),
+    (lambda a, b: lib.mod_double(lib.as_signed(a), 7), "mod_double: `a` is Signed, and numbers below 7 are not: a.as_unsigned()"),
+    (lambda a, b: lib.lookup(3, [5, 6]), "lookup(3, ..): a number that is known now takes an entry of a list"),
     (lambda a, b: lib.lookup(a, []), "lookup(..): 0 entries, and a number of 8 bits chooses among 256"),
 ]
 

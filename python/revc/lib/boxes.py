@@ -102,8 +102,8 @@ def present_sbox(x: Bits) -> Bits:
 
 def in_words(x: Words, count: int, title: str) -> List[Bits]:
     """The words that a box works on, of one width; those of a number are its bits."""
-    words = list(x)
-    if not all(is_bits(each) for each in words) or len({each.width for each in words}) != 1:
+    words = list(x) if is_bits(x) or isinstance(x, (list, tuple)) else []
+    if not words or not all(is_bits(each) for each in words) or len({each.width for each in words}) != 1:
         raise WidthError(f"{title}: words of one width are wanted, or a number")
     if count and len(words) != count:
         raise WidthError(f"{title}: {count} words are wanted, or a number of {count} bits, and not {len(words)}")

@@ -2,8 +2,8 @@
 from typing import Optional
 
 from ..completions import Entries
-from ..errors import WidthError
-from ..operations import Const
+from ..errors import KindError, WidthError
+from ..operations import Const, is_bits
 from ..tables import table
 from ..trace import one_name
 from ..values import Bits
@@ -17,6 +17,8 @@ def lookup(x: Bits, values: Entries, width: Optional[int] = None) -> Bits:
     never more ANDs than L - 1 less the bits of L - 1 (unary iteration, or all products), and never more than
     2^(k - j) + j - k - 1 + (2^j - 1) m for any j, k being the bits of x (select and swap).
     """
+    if not is_bits(x):
+        raise KindError(f"lookup({x!r}, ..): a number that is known now takes an entry of a list by Python's values[{x!r}]")
     values = list(values)
     count = len(values)
     if not 1 <= count <= 1 << x.width:

@@ -7,7 +7,7 @@ from typing import Callable, Iterator, List, NamedTuple, Sequence, Tuple, Union
 
 from ..arithmetic import library
 from ..errors import KindError, WidthError
-from ..operations import Cat, Const, add, is_bits, number, said, sub, widen
+from ..operations import Cat, Const, add, is_bits, number, said, spelled, sub, widen
 from ..tables import table
 from ..trace import one_name
 from ..values import Bits
@@ -30,6 +30,8 @@ def residue(x: Number, m: int, width: int, title: str) -> Bits:
     w = (m - 1).bit_length()
     if not is_bits(x):
         return Const(as_known(x, title) % m, w)
+    if x.is_signed:
+        raise KindError(f"{title}: {said(x)} is Signed, and numbers below {m} are not: {spelled(x)}.as_unsigned()")
     if x.width != width or width < w:
         raise WidthError(f"{title}: {said(x)} has {x.width} bits, and numbers below {m} have {w}: both sides have one width "
                          "of so many bits or more")
