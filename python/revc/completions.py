@@ -38,7 +38,8 @@ def interpolated(values: Entries, m: int, k: int, order: Sequence[int]) -> List[
 def orders(k: int) -> Iterator[List[int]]:
     """Orders of all products of k variables: by their degrees, and by their numbers, for several orders of the variables."""
     chance = random.Random(k)
-    yield sorted(range(1 << k), key=lambda e: (weight(e), e))
+    if k in ORDERS:
+        yield sorted(range(1 << k), key=lambda e: (weight(e), e))
     for variables in itertools.islice(itertools.permutations(range(k)) if k <= 4 else shuffled(k, chance), ORDERS.get(k, 1)):
         yield [sum((e >> i & 1) << v for i, v in enumerate(variables)) for e in range(1 << k)]
 
