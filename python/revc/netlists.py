@@ -2,9 +2,10 @@
 from dataclasses import dataclass, replace
 from functools import cached_property
 from pathlib import Path
-from typing import Dict, List, Mapping, Optional, Protocol, Tuple, overload
+from typing import Dict, List, Mapping, Optional, Protocol, Tuple, Union, overload
 
 from . import program
+from .counting import Cost, cost_of
 from .drawing import COLUMNS, SHOWN_GATES, SHOWN_LINES, Drawing, Picture
 from .errors import RevcError, WidthError
 from .circuit_texts import FILES, ending_of, qasm_text, real_text
@@ -58,6 +59,13 @@ class Netlist:
     def __repr__(self) -> str:
         sizes = [name if self.names[lines[0]] == name else f"{name}[{len(lines)}]" for name, lines in self.registers.items()]
         return f"<{', '.join(sizes[:8])}{', ..' * (len(sizes) > 8)}: {self.lines:,} lines, {len(self.gates):,} gates>"
+
+    @property
+    def cost(self) -> Cost:
+        """What it costs by X, CX and CCX gates. Lines that may start as anything count as inputs, others as work lines."""
+        plain = self.split()
+        free = plain.marks.count("-")
+        return cost_of([gate.lines for gate in plain.gates], free, 0, 0, plain.lines)
 
     # ---- Files
 
@@ -221,7 +229,7 @@ def read_text(text: str, name: str = "circuit") -> Netlist:
     return Netlist(tuple(names), tuple(gates), marks, garbage)
 
 
-def read(path: str) -> Netlist:
+def read(path: Union[str, Path]) -> Netlist:
     """The circuit in a `.real` or OpenQASM file, of whatever tool."""
     try:
         text = Path(path).read_text()

@@ -51,7 +51,7 @@ class Reader:
             self.plain_gates()
         if not self.names:
             self.tokens.refuse("no lines are declared: `qreg q[4];`, in OpenQASM 3 `qubit[4] q;`", self.tokens.next)
-        self.known.count(self.gates, self.tokens.next)
+        self.known.count(len(self.gates), self.tokens.next)
         return GateList(self.names, "-" * len(self.names), self.gates)
 
     def plain_gates(self) -> None:
@@ -177,7 +177,7 @@ class Reader:
         gates = self.known.called(modifiers, name, len(operands))
         for lines in self.broadcast(operands, name):
             self.gates += moved(gates, lines)
-        self.known.count(self.gates, name)
+        self.known.count(len(self.gates), name)
 
     def broadcast(self, operands: List[List[int]], name: Token) -> List[List[int]]:
         """The lines of each gate that a call stands for."""
@@ -225,4 +225,9 @@ class Reader:
 
 def read_openqasm(text: str, name: str = "circuit") -> GateList:
     """The circuit of an OpenQASM 2 or 3 text; `name` is the file's, for refusals."""
-    return Reader(text, name).read()
+    reader = Reader(text, name)
+    try:
+        return reader.read()
+    except RecursionError:
+        deep = reader.tokens.next
+    reader.tokens.refuse("brackets or definitions stand too deep in each other here", deep)

@@ -107,15 +107,15 @@ class Gates:
             if each.word == "inv":
                 gates = gates[::-1]
             elif each.word == "pow":
+                self.count(len(gates) * each.number, name)
                 gates = gates * each.number
             else:
                 gates = controlled(moved(gates, range(each.number, each.number + count)),
                                    [(line, each.word == "ctrl") for line in range(each.number)])
-            self.count(gates, name)
         return gates
 
-    def count(self, gates: Sequence[Gate], token: Token) -> None:
-        if len(gates) > MOST_GATES:
+    def count(self, gates: int, token: Token) -> None:
+        if gates > MOST_GATES:
             self.tokens.refuse(f"the gates pass {MOST_GATES:,}, the most that a circuit has", token)
 
     def plain(self, name: Token, count: int) -> List[Gate]:
@@ -154,7 +154,7 @@ class Gates:
         places, gates = {line: place for place, line in enumerate(lines)}, []
         while not self.tokens.takes("}"):
             gates += self.inner(places)
-            self.count(gates, name)
+            self.count(len(gates), name)
         self.tokens.place = behind
         return gates
 

@@ -41,7 +41,10 @@ def verify_text(program: RevsText, text: str, lines: Optional[Lines], borrow: in
 
 
 def is_in_order(program: RevsText, text: str) -> bool:
-    """Whether no names of a text's head put its lines into another order than that in which they stand."""
+    """Whether no names of a text's head put its lines into another order than that in which they stand, and no line starts
+    at 1, which the program `revc` does not look at."""
+    if re.search(r"^\.constants\s.*1", text, re.MULTILINE):
+        return False
     if form_of(text) == "qasm":
         names = [f"{name}[{place}]" for name, size in REGISTER.findall(text) for place in range(min(int(size), 16384))]
     else:

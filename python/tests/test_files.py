@@ -2,6 +2,7 @@
 import unittest
 from random import Random
 from typing import List, Tuple
+from unittest import mock
 
 from foreign import TOOLS, Op, Registers, ran, random_ops, wide_by_phases
 from revc.errors import ReadError, RevcError
@@ -108,6 +109,17 @@ def ran_by_gates(netlist: Netlist, bits: int) -> int:
 
 
 class Reading(unittest.TestCase):
+    def test_many_gates_and_deep_ones(self) -> None:
+        doubled = "gate g0 a,b { cx a,b; } " + " ".join(f"gate g{i} a,b {{ g{i - 1} a,b; g{i - 1} b,a; }}" for i in range(1, 16))
+        with mock.patch("revc.qasm_gates.MOST_GATES", 5000), self.assertRaisesRegex(ReadError, "the gates pass 5,000"):
+            read_text(f"{TWO}{doubled} g15 q[0],q[1];")
+        with self.assertRaisesRegex(ReadError, "the gates pass 4,000,000"):
+            read_text(THREE + "pow(4000) @ pow(4000) @ x q[0];")
+        nested = "gate g0 a { x a; } " + " ".join(f"gate g{i} a {{ g{i - 1} a; }}" for i in range(1, 2000))
+        for text in (f"{TWO}{nested} g1999 q[0];", f"{THREE}x q[{'(' * 5000}0{')' * 5000}];"):
+            with self.assertRaisesRegex(ReadError, "too deep in each other here"):
+                read_text(text)
+
     def test_each_tool(self) -> None:
         """Random circuits in the form of each tool, all inputs of up to 7 lines."""
         random = Random(72)

@@ -90,6 +90,7 @@ class Values(unittest.TestCase):
     def test_controls_stand_in_the_middle_alone(self) -> None:
         one = read_text(TWO + "ccx q[0],q[1],r[0]; cx r[0],r[1]; ccx q[0],q[1],r[0];").controlled(name="on")
         self.assertEqual(gates_of(one), [(1, 2, 5), (0, 5, 6), (1, 2, 5)])
+        self.assertEqual((one.cost.lines, one.cost.toffoli, one.cost.t, one.cost.depth), (9, 3, 21, 3))
 
     def test_other_lines(self) -> None:
         one = read_text(ADDER).on({"a": "q[0:4]", "b": "q[4:8]"}, cin="flag")
@@ -156,6 +157,8 @@ class AgainstPrograms(unittest.TestCase):
     def test_lines_that_start_at_1(self) -> None:
         text = ".version 2.0\n.numvars 3\n.variables a out one\n.constants -11\n.begin\nt2 a out\nt2 one out\n.end\n"
         self.assertEqual(Source("main (a : bool) = a").verify(text, lines={"a": "a", "out": "out"}), "verified")
+        text_in_order = ".version 2.0\n.numvars 2\n.variables x y\n.constants -1\n.begin\nt2 x y\nt1 y\n.end\n"
+        self.assertEqual(Source("main (a : bool) = a").verify(text_in_order), "verified")
         with self.assertRaises(RevcError) as refused:
             Source("main (a : bool) = a").verify(text, lines={"a": "out", "out": "a"})
         self.assertIn("`out` starts at 1 by a mark of the file", str(refused.exception))
