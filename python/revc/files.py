@@ -87,8 +87,9 @@ def converted(command: str, text: str, form: str, path: str) -> str:
     reads or writes it."""
     if form != "qasm3":
         try:
-            return program.call([command, "--to", form, "--from", form_of(text)], text.encode(),
-                                lambda message, status: refusals.explain(message, status, None, text, [command])).decode()
+            words = [command, "--to", form, "--from", form_of(text)]
+            return program.call(words, text.encode(),
+                                lambda message, status: refusals.explain(message, status, None, text, words)).decode()
         except CircuitRefused:
             if form_of(text) == "real":
                 raise

@@ -36,6 +36,10 @@ class Deadline:
             raise TimedOut(f"not done within {self.seconds:g} seconds (timeout)")
         return left
 
+    def at_most(self, seconds: float) -> float:
+        """So many seconds, or those that are left where these are fewer."""
+        return seconds if self.seconds is None else max(0.0, min(seconds, self.seconds - self.spent()))
+
 
 class Version(NamedTuple):
     """Which program it is: its file, the first digits of that file's SHA-256, and the plans that it has."""

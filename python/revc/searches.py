@@ -85,12 +85,12 @@ def every_circuit(search: Search, plans: Optional[Sequence[str]], points: int,
 # ---- What helps
 
 
-def lines_that_fit(source: RevsText, plan: str, lines: int, gates: int, borrow: int) -> str:
+def lines_that_fit(source: RevsText, plan: str, lines: int, gates: int, borrow: int, patience: float = PATIENCE) -> str:
     """What helps where a circuit does not fit: the least number of lines under this plan and the others."""
     least = source.inputs + source.outputs + borrow
     if least > lines:
         return f"inputs, outputs and borrowed lines alone are {least}: give lines={least + 1} or more (--lines)"
-    search, found = Search(source, PATIENCE, quiet=True), []
+    search, found = Search(source, patience, quiet=True), []
     for each in [plan] + [other for other in all_plans() if other != plan]:
         circuit = None if search.is_late else search.at(each, LINES, gates)
         if circuit is None:
@@ -103,9 +103,9 @@ def lines_that_fit(source: RevsText, plan: str, lines: int, gates: int, borrow: 
     return f"it takes {', '.join(found)}{late}: give as many (lines, --lines); costs() says what each costs"
 
 
-def gates_that_fit(source: RevsText, plan: str, lines: int, borrow: int) -> str:
+def gates_that_fit(source: RevsText, plan: str, lines: int, borrow: int, patience: float = PATIENCE) -> str:
     """What helps where a circuit has too many gates: how many are enough under this plan and the others."""
-    search, found = Search(source, PATIENCE, quiet=True), []
+    search, found = Search(source, patience, quiet=True), []
     for each in [plan] + [other for other in all_plans() if other != plan]:
         enough = None if search.is_late else least_gates(search, each, lines, borrow)
         if enough:

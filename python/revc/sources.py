@@ -12,7 +12,7 @@ from .netlists import Netlist
 from .program import Deadline
 from .progress import Told
 from .revs import Compiled, RevsText, within
-from .searches import gates_that_fit, lines_that_fit
+from .searches import PATIENCE, gates_that_fit, lines_that_fit
 from .verifying import asking, verify_netlist, verify_text
 
 
@@ -29,12 +29,14 @@ class Source(RevsText):
         """
         words = ["compile", "--plan", plan, "--lines", str(lines), "--gates", str(gates), "--nodes", str(nodes)]
         words += ["--borrow", str(borrow)] if borrow else []
+        deadline = Deadline(timeout)
         try:
-            return Circuit(self, self.ask(words, deadline=Deadline(timeout)), words, borrow, names)
+            return Circuit(self, self.ask(words, deadline=deadline), words, borrow, names)
         except LinesExceeded as refusal:
-            raise more(refusal, lines_that_fit(self, plan, lines, gates, borrow)) from None
+            helps = lines_that_fit(self, plan, lines, gates, borrow, deadline.at_most(PATIENCE))
+            raise more(refusal, helps) from None
         except GatesExceeded as refusal:
-            raise more(refusal, gates_that_fit(self, plan, lines, borrow)) from None
+            raise more(refusal, gates_that_fit(self, plan, lines, borrow, deadline.at_most(PATIENCE))) from None
         except Refused as refusal:
             if refusal.status == program.USAGE:
                 if plan not in program.plans():
