@@ -34,6 +34,10 @@ def gate_of(line: str, places: Dict[str, int]) -> Gate:
         if name.lstrip("-") not in places:
             raise RevcError(f"`{name}` is no line of `.variables`")
     lines = [places[name.lstrip("-")] for name in names]
+    if len(set(lines)) < len(lines):
+        raise RevcError(f"`{line}` has a line twice")
+    if any(name.startswith("-") for name in names[-targets:]):
+        raise RevcError(f"`{line}` has a minus at a line that it flips or swaps: only controls have one")
     bits = [not name.startswith("-") for name in names]
     return Gate(tuple(zip(lines, bits))[:-targets], tuple(lines[-targets:]))
 
@@ -48,6 +52,8 @@ class Reader:
     def header(self, words: List[str]) -> None:
         if words[0] == ".variables":
             self.places = {name: place for place, name in enumerate(words[1:])}
+            if len(self.places) < len(words) - 1:
+                raise RevcError("two lines have one name")
         elif words[0] == ".constants":
             self.marks = "".join(words[1:])
 
@@ -57,10 +63,10 @@ class Reader:
             gate = known.get(line)
             if gate is None:
                 words = words_of(line)
-                if not words or words[0] == ".":
-                    self.header(words.split() or [""])
-                    continue
                 try:
+                    if not words or words[0] == ".":
+                        self.header(words.split() or [""])
+                        continue
                     gate = known[line] = gate_of(words, self.places)
                 except RevcError as reason:
                     raise RevcError(f"line {number}: {reason}") from None

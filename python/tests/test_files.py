@@ -160,6 +160,15 @@ class Reading(unittest.TestCase):
             self.assertTrue(said.endswith("^"), said)
             self.assertIsInstance(refused.exception, (RevcError, ValueError))
 
+    def test_refusals_of_real(self) -> None:
+        for variables, gate, says in (("a b", "t2 a a", "file.real: line 4: `t2 a a` has a line twice"),
+                                      ("a b", "t2 a -b", "`t2 a -b` has a minus at a line that it flips or swaps"),
+                                      ("a b", "t2 a c", "`c` is no line of `.variables`"), ("a b", "h1 a", "`h1 a` is no gate"),
+                                      ("a a", "t1 a", "file.real: line 2: two lines have one name")):
+            with self.assertRaises(RevcError) as refused:
+                read_text(f".numvars 2\n.variables {variables}\n.begin\n{gate}\n.end\n", "file.real")
+            self.assertIn(says, str(refused.exception))
+
     def test_an_adder(self) -> None:
         adder = read_text(ADDER)
         for a in range(16):
