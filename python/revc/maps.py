@@ -7,6 +7,7 @@ from .line_names import Named, lines_of, pieces
 
 Lines = Mapping[str, str]  # from a parameter, a result, `out` or `borrowed` to lines of the circuit
 OUT, BORROWED = "out", "borrowed"
+OWN = (("x", "y"), ("inp", "outp"))  # what the program calls inputs and outputs
 
 
 class Signature(NamedTuple):
@@ -129,11 +130,20 @@ def checked(signature: Signature, of_place: Mapping[int, int], borrowed: List[in
     return LineMap(inputs, outputs, [line for line in range(count) if line not in apart], borrowed)
 
 
+def is_own_order(signature: Signature, registers: Mapping[str, List[int]]) -> bool:
+    """Whether the registers are those of a file that the program `revc` wrote, whose names say nothing of parameters."""
+    inputs = signature.inputs
+    outputs = list(range(inputs, inputs + sum(width for _, width in signature.out)))
+    return any(registers.get(one) == list(range(inputs)) and registers.get(other) == outputs for one, other in OWN)
+
+
 def found_by_names(signature: Signature, registers: Mapping[str, List[int]]) -> Optional[Dict[str, str]]:
     """The map by registers that have the names and widths of the parameters and of the results, or nothing.
 
     The outputs are the registers of all results, or one that is called `out` or `outp`.
     """
+    if is_own_order(signature, registers):
+        return None
     found: Dict[str, str] = {}
     for name, width in signature.params:
         register = named(name, width, registers)

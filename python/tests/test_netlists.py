@@ -173,6 +173,21 @@ class AgainstPrograms(unittest.TestCase):
         for form in ("real", "qasm", "qasm3"):
             self.assertEqual(product.verify(getattr(product.compile(names=True), form)), "verified")
 
+    def test_names_of_the_program(self) -> None:
+        """Its files call inputs x and inp, and outputs y and outp, whatever the parameters are called."""
+        @oracle
+        def x(y: Bits[2]):
+            return y + 1
+
+        @oracle
+        def inp(outp: Bits[2]):
+            return outp + 1
+        for each in (x, inp):
+            circuit = each.compile()
+            for text in (circuit.real, circuit.qasm, circuit.qasm3):
+                self.assertEqual(each.verify(text), "verified")
+            self.assertEqual(each.verify(each.compile(names=True).qasm3), "verified")
+
     def test_borrowed_lines(self) -> None:
         text = 'OPENQASM 3.0;\nqubit[3] q; qubit dirty; qubit t;\n'
         gates = "ccx q[0], q[1], dirty; ccx dirty, q[2], t; ccx q[0], q[1], dirty; ccx dirty, q[2], t;"
