@@ -9,17 +9,32 @@
     circuit = factors.compile()
     circuit.qasm, circuit.cost, circuit.run(a=11, b=13)
 """
+from . import types
 from .arithmetic import popcount
-from .circuits import Circuit, Cost
-from .costs import Costs
-from .errors import Refused, RevcError, WidthError
+from .choices import Switch
+from .circuits import Circuit
+from .costs import Costs, Row
+from .counting import Cost
+from .equality import equal
+from .errors import (CircuitDiffers, CircuitRefused, ClaimFails, GatesExceeded, KindError, KnownLater, LinesExceeded,
+                     NodesExceeded, OutOfMemory, PlaceError, ReadError, Refused, RevcError, TextRefused, TimedOut, Unsettled,
+                     WidthError)
 from .functions import clean, function, require
-from .operations import Cat, Const, Mux, Switch, add, sub, widen
+from .netlists import Netlist, read
+from .operations import Mux, add, sub
 from .oracles import Oracle, oracle
+from .places import Cat, Const, widen
+from .program import version
+from .progress import Step
 from .sources import Source, load
 from .tables import table
+from .types import *
 from .values import Bits
 
-__all__ = ["Bits", "Cat", "Circuit", "Const", "Cost", "Costs", "Mux", "Oracle", "Refused", "RevcError", "Source",
-           "Switch", "WidthError", "add", "clean", "function", "load", "oracle", "popcount", "require", "sub", "table",
-           "widen"]
+__version__ = "1.1"
+__all__ = ["Bits", "Cat", "Circuit", "CircuitDiffers", "CircuitRefused", "ClaimFails", "Const", "Cost", "Costs",
+           "GatesExceeded", "KindError", "KnownLater", "LinesExceeded", "Mux", "Netlist", "NodesExceeded", "Oracle",
+           "OutOfMemory", "PlaceError", "ReadError", "Refused", "RevcError", "Row", "Source", "Step", "Switch",
+           "TextRefused", "TimedOut", "Unsettled", "WidthError", "add", "clean", "equal", "function", "load", "oracle",
+           "popcount", "read", "require", "sub", "table", "version", "widen"]
+__all__ += types.__all__

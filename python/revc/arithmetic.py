@@ -2,10 +2,10 @@
 import itertools
 from typing import Any, Callable, List, Sequence, Tuple
 
-from .errors import RevcError
-from .operations import Cat, Const, Mux, add, bits, call, is_bits, number, said, scope, sub, widen
+from .errors import KindError, KnownLater, WidthError
+from .operations import Cat, Const, Mux, add, bits, call, number, said, scope, spelled, sub, widen
 from .trace import Node, current, one_name
-from .values import Bits
+from .values import Bits, Operand, means
 
 KARATSUBA = 16  # bits from which three products of half the width are cheaper than four
 
@@ -27,11 +27,12 @@ def library(title: str, args: Sequence[Bits], body: Callable[..., Bits], key: An
 # ---- Products
 
 
-def product(x: Bits, y: Any) -> Bits:
+@means("*")
+def product(x: Bits, y: Operand) -> Bits:
     """The whole product: as many bits as both factors have, or as x and a number have."""
-    if not is_bits(y):
+    if not isinstance(y, Bits):
         if not isinstance(y, int) or y < 0:
-            raise RevcError("%s * %r: a constant factor is a whole number from 0 up" % (said(x), y))
+            raise WidthError(f"{said(x)} * {y!r}: a constant factor is a whole number from 0 up")
         return times(x, y, max(y.bit_length(), 1))
     if number(y) is not None:
         return times(x, y.node.data, y.width)
@@ -42,9 +43,9 @@ def product(x: Bits, y: Any) -> Bits:
         zero = Const(0, many.width)
         return widen(one & many if many.width == 1 else Mux(one, many, zero), x.width + y.width)
     if x.node is y.node:
-        return library("square%d" % x.width, [x], square)
+        return library(f"square{x.width}", [x], square)
     if x.width == y.width >= KARATSUBA:
-        return library("mul%d_%d" % (x.width, x.width), [x, y], karatsuba)
+        return library(f"mul{x.width}_{x.width}", [x, y], karatsuba)
     return call("mul", (x.width, y.width), [x, y], x.width + y.width)
 
 
@@ -109,19 +110,23 @@ def times(x: Bits, c: int, width: int) -> Bits:
             return value[:whole] if value.width > whole else widen(value, whole)
         plus, minus = [[k for k, d in digits if d == sign] for sign in (1, -1)]
         return sub(fitted(total(x, plus)), fitted(total(x, minus))) if minus else fitted(total(x, plus))
-    return library("times%d_%d" % (c, n), [x], body, ("times", c, n, width)) if n > 1 else body(x)
+    return library(f"times{c}_{n}", [x], body, ("times", c, n, width)) if n > 1 else body(x)
 
 
 # ---- Quotients
 
 
-def quotient(x: Bits, d: Any) -> Tuple[Bits, Bits]:
+@means("divmod")
+def quotient(x: Bits, d: Operand) -> Tuple[Bits, Bits]:
     """Quotient by a constant d, at the width of x, and remainder, at the width of d - 1."""
-    d = number(d) if is_bits(d) and number(d) is not None else d
-    if is_bits(d):
-        raise RevcError("divmod(%s, %s): only by a number that is known now; of few values make a table" % (said(x), said(d)))
+    if isinstance(d, Bits):
+        known = number(d)
+        if known is None:
+            raise KnownLater(f"divmod({said(x)}, {said(d)}): only by a number that is known now: by a value "
+                             "revc.lib has divmod(a, b); of few values make a table")
+        d = known
     if not isinstance(d, int) or d < 1:
-        raise RevcError("divmod(%s, %r): by a whole number from 1 up" % (said(x), d))
+        raise KindError(f"divmod({said(x)}, {d!r}): by a whole number from 1 up")
     n = x.width
     if d == 1:
         return x, Const(0, 1)
@@ -143,8 +148,24 @@ def quotient(x: Bits, d: Any) -> Tuple[Bits, Bits]:
             q.append(~t[w])
             r = add(t[:w], Cat(*[t[w] if d >> k & 1 else Const(0, 1) for k in range(w)]))
         return Cat(*q[::-1], r)
-    out = library("div%d_%d" % (d, n), [x], body)
+    out = library(f"div{d}_{n}", [x], body)
     return widen(out[:steps], n), out[steps:]
+
+
+@means("//")
+def quotient_alone(x: Bits, d: Operand) -> Bits:
+    return quotient(x, d)[0]
+
+
+@means("%")
+def remainder_alone(x: Bits, d: Operand) -> Bits:
+    return quotient(x, d)[1]
+
+
+@means("rdivmod")
+def quotient_by_value(x: Bits, other: int) -> Tuple[Bits, Bits]:
+    raise KnownLater(f"{other!r} by {said(x)}: only by a number that is known now: by a value revc.lib has "
+                     f"divmod(Const({other!r}, n), {spelled(x)}); of few values make a table")
 
 
 # ---- Counts
@@ -157,7 +178,7 @@ def summed(columns: List[List[Bits]]) -> List[Bits]:
         column = list(columns[at])
         while len(column) > 1:
             three = column[:3] if len(column) > 2 else column + [Const(0, 1)]
-            full = call("full", "", three, 2).named("f%d" % next(count))
+            full = call("full", "", three, 2).named(f"f{next(count)}")
             column = column[3:] + [full[0]]
             if at + 1 == len(columns):
                 columns.append([])
@@ -170,4 +191,4 @@ def summed(columns: List[List[Bits]]) -> List[Bits]:
 @one_name
 def popcount(x: Bits) -> Bits:
     """How many bits of x are 1: as many ANDs as x has bits, less the 1s in this number."""
-    return x if x.width == 1 else library("popcount%d" % x.width, [x], lambda x: Cat(*summed([list(x)])))
+    return x if x.width == 1 else library(f"popcount{x.width}", [x], lambda x: Cat(*summed([list(x)])))

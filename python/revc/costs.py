@@ -1,19 +1,25 @@
-"""What all can be had of a program: plans, and for each the circuits from the least number of lines up."""
-import sys
-import time
+"""What all can be had of a program, as a table: plans, and for each the circuits from the least number of lines up."""
+import csv
+import io
+import json
 from pathlib import Path
-from typing import TYPE_CHECKING, Callable, Dict, Iterator, List, NamedTuple, Optional, Sequence, Tuple
+from typing import Dict, List, NamedTuple, Optional, Sequence, Tuple, Union, overload
 
-from . import program
-from .circuits import Circuit, Cost
-from .errors import Refused
+from .charts import chart
+from .circuit_texts import ending_of
+from .circuits import Circuit
+from .counting import Cost, html_table
+from .defaults import LINES
+from .drawing import Picture
+from .errors import RevcError, TimedOut
+from .progress import Told
+from .revs import RevsText
+from .searches import HALVINGS, Search, all_plans, every_circuit
 
-if TYPE_CHECKING:
-    from .sources import Source
-
-QUIET = 2.0  # seconds before progress is shown
-PATIENCE = 5.0  # seconds for the least numbers of lines that a refusal names
-USUAL = 4096  # lines that the program takes where nothing is said
+# The counts that a table shows, by what `by` calls them.
+COUNTS = {"lines": "lines", "gates": "gates", "toffoli": "Toffoli", "toffoli_depth": "Toffoli depth", "depth": "depth",
+          "t": "T"}
+BY = "toffoli"
 
 
 class Row(NamedTuple):
@@ -23,139 +29,124 @@ class Row(NamedTuple):
     lines: int
     cost: Cost
 
+    @property
+    def call(self) -> str:
+        """The options that give the circuit."""
+        return f"plan={self.plan!r}" + ("" if self.lines == LINES else f", lines={self.lines}")
 
-class Search:
-    """Compiles a program under plans and numbers of lines, and shows on standard error how far it is."""
-
-    def __init__(self, source: "Source", seconds: float = float("inf")):
-        self.source, self.begun, self.seconds = source, time.monotonic(), seconds
-        self.asked, self.shown = 0, False
-
-    def is_late(self) -> bool:
-        return time.monotonic() - self.begun > self.seconds
-
-    def at(self, plan: str, lines: int, gates: int = 0) -> Optional[Circuit]:
-        """The circuit on at most so many lines, or nothing."""
-        from .sources import GATES, NODES
-        self.asked += 1
-        if time.monotonic() - self.begun > QUIET and self.seconds == float("inf"):
-            self.show("%s --plan %s --lines %d" % (self.source.name, plan, lines))
-        words = ["compile", "--plan", plan, "--lines", str(lines), "--gates", str(gates or GATES),
-                 "--nodes", str(NODES)]
-        try:
-            return Circuit(self.source, self.source.ask(words), words)
-        except Refused as refused:
-            if refused.message.startswith(("revc: lines", "revc: more than")):
-                return None
-            raise
-
-    def show(self, text: str) -> None:
-        sys.stderr.write("\r%-78s" % ("costs, compilation %d: %s" % (self.asked, text))[:78] if text else "\r%78s\r" % "")
-        sys.stderr.flush()
-        self.shown = bool(text)
-
-    def least(self, plan: str, limit: int, found: Circuit) -> Tuple[int, Circuit]:
-        """The fewest lines that were found to be enough, and the circuit that comes of them, given one that came of `limit`.
-
-        A plan that searches may not find a circuit again within the very lines that this has, so the limit is kept apart.
-        """
-        low, high = self.source.inputs + self.source.outputs - 1, found.lines
-        while high - low > 1 and not self.is_late():
-            middle = (low + high) // 2
-            circuit = self.at(plan, middle)
-            if circuit is None:
-                low = middle
-            else:
-                limit, found, high = middle, circuit, min(middle, circuit.lines)
-        if found.lines < limit and self.at(plan, found.lines) is not None:
-            limit = found.lines
-        return limit, found
-
-    def circuits(self, plan: str, points: int) -> Iterator[Tuple[int, Circuit]]:
-        """Circuits of a plan, each with the limit that gives it: on all lines, on the fewest, and on some between."""
-        from .sources import LINES
-        most = self.at(plan, LINES)
-        if most is None:
-            return
-        fewest, least = self.least(plan, LINES, most)
-        yield LINES, most
-        yield fewest, least
-        step = (most.lines / least.lines) ** (1 / (points + 1))
-        for lines in sorted({int(least.lines * step ** i) for i in range(1, points + 1)}):
-            circuit = self.at(plan, lines)
-            if circuit is not None:
-                yield lines, circuit
+    def as_dict(self) -> Dict[str, Union[str, int]]:
+        """The plan and what to give as `lines`, called `compile_lines`, and each count of the circuit."""
+        return {"plan": self.plan, "compile_lines": self.lines, **self.cost.as_dict()}
 
 
-def sizes(circuit: Circuit) -> Tuple[int, int, int, int]:
-    """What is compared: lines, Toffoli gates, depth and gates, as the program counts them."""
-    counted: Dict[str, int] = {}
-    for line in program.call(["stat"], circuit.real.encode()).decode().splitlines():
-        counted[line.split()[0]] = int(line.split()[1])
-    return counted["lines"], counted["ccx"], counted["depth"], counted["gates"]
+def counts(cost: Cost) -> Tuple[int, ...]:
+    return tuple(getattr(cost, name) for name in COUNTS)
 
 
-def is_beaten(one: Sequence[int], others: Sequence[Sequence[int]]) -> bool:
+def ordered(cost: Cost, by: str) -> Tuple[int, ...]:
+    """The least of `by` first, then the fewest Toffoli gates and lines."""
+    return (getattr(cost, by), cost.toffoli, cost.lines, *counts(cost))
+
+
+def check_count(by: str) -> None:
+    if by not in COUNTS:
+        raise RevcError(f"by={by!r}: costs are counted by {', '.join(COUNTS)}")
+
+
+def is_beaten(one: Tuple[int, ...], others: Sequence[Tuple[int, ...]]) -> bool:
     return any(other != one and all(x <= y for x, y in zip(other, one)) for other in others)
 
 
 class Costs(List[Row]):
-    """The circuits that no other one beats in lines, Toffoli gates, depth and gates, the fewest Toffoli gates first.
+    """The circuits that no other one beats in all of the counts that are shown, as a list of rows.
 
-    `print` shows them as a table, `draw` Toffoli gates against lines.
+    Each row has `plan`, `lines` (what to give to `compile`), `cost` (all counts) and `call`. `print` and notebooks show
+    them as a table, the least of `by` first; `draw` shows Toffoli gates against lines. `is_late` says that `timeout`
+    seconds were over before all was tried.
     """
 
-    def __init__(self, source: "Source", plans: Optional[Sequence[str]] = None, points: int = 6):
+    def __init__(self, source: RevsText, plans: Optional[Sequence[str]] = None, points: int = 6, by: str = BY,
+                 progress: Told = None, timeout: Optional[float] = None):
         super().__init__()
-        self.name, search = source.name, Search(source)
-        found: Dict[Tuple[int, int, int, int], Tuple[str, int, Circuit]] = {}
-        for plan in plans or [each for each in program.plans() if each != "auto"]:  # auto is eager or pebble
-            for lines, circuit in search.circuits(plan, points):
-                found.setdefault(sizes(circuit), (plan, lines, circuit))
-        for one in sorted(found, key=lambda size: (size[1], size[0])):
-            if not is_beaten(one, list(found)):
-                plan, lines, circuit = found[one]
-                self.append(Row(plan, lines, circuit.cost))
-        if search.shown:
-            search.show("")
+        check_count(by)
+        search = Search(source, timeout, (points + HALVINGS) * len(plans or all_plans()), progress)
+        found: Dict[Tuple[int, ...], Row] = {}
+        for plan, lines, circuit in every_circuit(search, plans, points):
+            found.setdefault(counts(circuit.cost), Row(plan, lines, circuit.cost))
+        self.name, self.by, self.is_late = source.name, by, search.is_late
+        if self.is_late and not found:
+            raise TimedOut(f"no circuit of `{source.name}` within {timeout} seconds (timeout)")
+        unbeaten = [row for one, row in found.items() if not is_beaten(one, list(found))]
+        self += sorted(unbeaten, key=lambda row: ordered(row.cost, by))
+
+    def cells(self) -> List[List[str]]:
+        return [[row.plan, *(f"{count:,}" for count in counts(row.cost)), row.call] for row in self]
 
     def __str__(self) -> str:
-        heads = ["plan", "lines", "gates", "Toffoli", "Toffoli depth", "depth", "T", "compile(..)"]
-        rows = [[row.plan] + [format(count, ",") for count in (
-            row.cost.lines, row.cost.gates, row.cost.toffoli, row.cost.toffoli_depth, row.cost.depth, row.cost.t)]
-            + [call_of(row)] for row in self]
-        wide = [max(len(line[k]) for line in [heads] + rows) for k in range(len(heads))]
-        return "\n".join("  ".join(word.ljust(n) if k in (0, 7) else word.rjust(n)
-                                   for k, (word, n) in enumerate(zip(line, wide))).rstrip() for line in [heads] + rows)
+        table = [["plan", *COUNTS.values(), "compile(..)"], *self.cells()]
+        wide = [max(map(len, column)) for column in zip(*table)]
+        lines = ["  ".join(word.ljust(n) if k in (0, len(wide) - 1) else word.rjust(n)
+                           for k, (word, n) in enumerate(zip(row, wide))).rstrip() for row in table]
+        return "\n".join(lines + (["(cut short: not all was tried)"] if self.is_late else []))
 
-    def draw(self, path: Optional[str] = None, *others: "Costs") -> str:
-        """Toffoli gates against lines as SVG, of this program and of others; written where a file is named."""
-        from .charts import chart
-        picture = chart([self, *others])
-        if path:
-            Path(path).write_text(picture)
-        return picture
+    def _repr_html_(self) -> str:
+        """What a notebook shows."""
+        return html_table(["plan", *COUNTS.values(), "compile(..)"], self.cells())
+
+    def as_dicts(self) -> List[Dict[str, Union[str, int]]]:
+        """Each row with all of its counts, below the name of the program."""
+        return [{"program": self.name, **row.as_dict()} for row in self]
+
+    def json(self, *others: "Costs") -> str:
+        """The rows, and those of others behind them, as a JSON list of objects."""
+        return json.dumps([row for each in (self, *others) for row in each.as_dicts()], indent=1) + "\n"
+
+    def csv(self, *others: "Costs") -> str:
+        """The rows, and those of others, as a table with commas, below a line of names."""
+        out, rows = io.StringIO(), [row for each in (self, *others) for row in each.as_dicts()]
+        table = csv.DictWriter(out, list(rows[0]) if rows else ["program"], lineterminator="\n")
+        table.writeheader()
+        table.writerows(rows)
+        return out.getvalue()
+
+    def save(self, path: str, *others: "Costs") -> None:
+        """Write the table to a file, as `.csv`, `.json` or the picture `.svg` by its name."""
+        kind = ending_of(path, (".csv", ".json", ".svg"), "costs are written")
+        text = {".csv": self.csv, ".json": self.json}.get(kind)
+        Path(path).write_text(text(*others) if text else self.draw(None, *others))
+
+    @overload
+    def draw(self, path: str, *others: "Costs") -> None: ...
+
+    @overload
+    def draw(self, path: None = None, *others: "Costs") -> Picture: ...
+
+    def draw(self, path: Optional[str] = None, *others: "Costs") -> Optional[Picture]:
+        """Toffoli gates against lines as SVG, of this program and of others; or it is written to the file `path`."""
+        picture = Picture(chart([(each.name, [(row.cost.lines, row.cost.toffoli) for row in each])
+                                 for each in (self, *others)]))
+        return picture.write(path) if path else picture
 
 
-def call_of(row: Row) -> str:
-    """The options that give a circuit."""
-    from .sources import LINES
-    return "plan=%r" % row.plan + ("" if row.lines == LINES else ", lines=%d" % row.lines)
-
-
-def lines_that_fit(source: "Source", plan: str, lines: int, gates: int, borrow: int) -> str:
-    """What helps where a circuit does not fit: the least number of lines under this plan and the others."""
-    least = source.inputs + source.outputs + borrow
-    if least > lines:
-        return ("inputs, outputs and borrowed lines alone are %d: give lines=%d or more (--lines)" % (least, least + 1))
-    search, found = Search(source, PATIENCE), []
-    for each in [plan] + [other for other in program.plans() if other not in ("auto", plan)]:
-        circuit = None if search.is_late() else search.at(each, 16384, gates)
-        if circuit is None:
-            continue
-        fewest, _ = search.least(each, 16384, circuit)
-        found.append("%d under `%s`" % (fewest, each) if found else "%d lines under `%s`" % (fewest, each))
-    if not found:
-        return "try more lines, and costs() for all that can be had"
-    late = " at most (the search was cut short)" if search.is_late() else ""
-    return "it takes %s%s: give as many (lines, --lines); costs() says what each costs" % (", ".join(found), late)
+def best_circuit(source: RevsText, by: str, most: Dict[str, int], plans: Optional[Sequence[str]], points: int,
+                 progress: Told, timeout: Optional[float]) -> Circuit:
+    """The circuit of the least `by` among those that have at most so much of each count in `most`."""
+    for name in (by, *most):
+        check_count(name)
+    search = Search(source, timeout, (points + HALVINGS) * len(plans or all_plans()), progress)
+    best: Optional[Circuit] = None
+    near: Optional[Cost] = None  # of those that have too much of something
+    for _, _, circuit in every_circuit(search, plans, points, min(most.get("lines", LINES), LINES)):
+        if all(getattr(circuit.cost, name) <= limit for name, limit in most.items()):
+            if best is None or ordered(circuit.cost, by) < ordered(best.cost, by):
+                best = circuit
+        elif near is None or ordered(circuit.cost, by) < ordered(near, by):
+            near = circuit.cost
+    if best is None and near is None and search.is_late:
+        raise TimedOut(f"no circuit of `{source.name}` within {timeout} seconds (timeout)")
+    if best is None:
+        wanted = ", ".join(f"{name}={limit}" for name, limit in most.items())
+        late = ", as far as was tried before the timeout" if search.is_late else ""
+        raise RevcError(f"no circuit of `{source.name}` is within {wanted}{late}: "
+                        + (f"the least {COUNTS[by]} otherwise: {near}" if near else "costs() shows all that can be had"))
+    return best

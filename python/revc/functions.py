@@ -1,20 +1,20 @@
 """Functions of Python as functions of the text, their parameters and results; and claims."""
 import functools
 import inspect
-from typing import Any, Callable, Dict, List, Sequence, Tuple, TypeVar
+from typing import Any, Callable, Dict, List, Mapping, Sequence, Tuple, TypeVar, cast
 
-from .errors import RevcError, WidthError
+from .errors import KindError, RevcError, WidthError
 from .names import author
-from .operations import Const, is_bits, said, scope
+from .places import Const
 from .trace import Node, current
-from .values import Bits, Width
+from .values import Bits, Width, is_bits, said, scope
 
 Shape = Any  # how the values of a result stand in tuples, lists and dicts; None for a single one
 Function = TypeVar("Function", bound=Callable[..., Any])
 
 
-def widths(func: Any) -> Dict[str, int]:
-    """The widths that a function's annotations say, as `Bits[8]` or `Annotated[Bits, 8]`."""
+def widths(func: Any) -> Dict[str, Width]:
+    """What a function's annotations say, as `Bits[8]`, `Signed[8]` or `Annotated[Bits, 8]`."""
     space = dict(func.__globals__)
     if func.__closure__:
         cells = [(name, cell) for name, cell in zip(func.__code__.co_freevars, func.__closure__)]
@@ -25,14 +25,15 @@ def widths(func: Any) -> Dict[str, int]:
             try:
                 note = eval(note, space)
             except NameError as error:
-                raise RevcError("the width %s of `%s`: %s (with `from __future__ import annotations` it has to be known "
-                                "in the module)" % (note, name, error)) from None
-        if getattr(note, "__origin__", None) is Bits:
-            note = Width(note.__metadata__[0])
-        if note is Bits and name != "return":
-            raise RevcError("`%s: Bits` has no width: write %s: Bits[8]" % (name, name))
+                raise RevcError(f"the width {note} of `{name}`: {error} (with `from __future__ import annotations` it has "
+                                "to be known in the module)") from None
+        kind = getattr(note, "__origin__", note)
+        if isinstance(kind, type) and issubclass(kind, Bits):
+            if kind is note and name != "return":
+                raise RevcError(f"`{name}: {kind.__name__}` has no width: write {name}: {kind.__name__}[8]")
+            note = note if kind is note else kind[note.__metadata__[0]]
         if isinstance(note, Width):
-            found[name] = note.width
+            found[name] = note
     return found
 
 
@@ -59,8 +60,8 @@ def flatten(value: Any, title: str) -> Tuple[List[Bits], Shape]:
         keys = list(value) if isinstance(value, dict) else None
         return [each for flat, _ in parts for each in flat], (type(value), keys, [(len(f), s) for f, s in parts])
     if value is None:
-        raise RevcError("`%s` returns nothing: it wants a `return`" % title)
-    raise RevcError("`%s` returns %r, which is no Bits: give a number its width, Const(%r, n)" % (title, value, value))
+        raise RevcError(f"`{title}` returns nothing: it wants a `return`")
+    raise RevcError(f"`{title}` returns {value!r}, which is no Bits: give a number its width, Const({value!r}, n)")
 
 
 def unflatten(shape: Shape, flat: Sequence[Any]) -> Any:
@@ -79,11 +80,11 @@ def result_names(shape: Shape, flat: Sequence[Bits], title: str) -> List[str]:
     if shape is not None and shape[1] is not None:
         names = []
         for key, (count, _) in zip(shape[1], shape[2]):
-            names += [str(key)] if count == 1 else ["%s_%d" % (key, i) for i in range(count)]
+            names += [str(key)] if count == 1 else [f"{key}_{i}" for i in range(count)]
         return names
     if len(flat) == 1:
         return [title]
-    return [each.node.name or each.node.hint or "%s_%d" % (title, i) for i, each in enumerate(flat)]
+    return [each.node.name or each.node.hint or f"{title}_{i}" for i, each in enumerate(flat)]
 
 
 def function(func: Function) -> Function:
@@ -98,37 +99,52 @@ def function(func: Function) -> Function:
     def called(*args: Any, **named: Any) -> Any:
         bound = signature.bind(*args, **named)
         bound.apply_defaults()
-        known = widths(func)
-        params: List[Tuple[str, int]] = []
-        actual: List[Bits] = []
-        shapes = {}
-        for name, value in bound.arguments.items():
-            if name in known and not is_bits(value):
-                value = Const(value, known[name])
-            if holds_bits(value):
-                flat, shape = flatten(value, func.__name__)
-                if name in known and flat[0].width != known[name]:
-                    raise WidthError("`%s` of `%s` has %d bits, and %s %d"
-                                     % (name, func.__name__, known[name], said(flat[0]), flat[0].width))
-                shapes[name] = (len(actual), len(flat), shape)
-                params += [(name if shape is None else "%s%d" % (name, i), each.width) for i, each in enumerate(flat)]
-                actual += flat
+        return traced_call(func, bound)
+    return cast(Function, called)
 
-        def body(nodes: List[Node]) -> Any:
-            for name, (at, count, shape) in shapes.items():
-                bound.arguments[name] = unflatten(shape, [Bits(each) for each in nodes[at:at + count]])
-            flat, shape = flatten(func(*bound.args, **bound.kwargs), func.__name__)
-            return [each.node for each in flat], shape
-        program = current()
-        quiet, program.quiet = program.quiet, False
-        try:
-            name, results, shape = program.function(func.__name__, params, body)
-        finally:
-            program.quiet = quiet
-        given = [each.node for each in actual] or [Const(0, 1).node]
-        whole = Bits(scope().add("call", name, given, sum(each.width for each in results)))
-        return unflatten(shape, cut_results(whole, name, results))
-    return called  # type: ignore[return-value]
+
+def traced_call(func: Callable[..., Any], bound: inspect.BoundArguments) -> Any:
+    """The results of a call: `func` is traced on its parameters, and what comes is called with the values given."""
+    params: List[Tuple[str, int]] = []
+    actual: List[Bits] = []
+    shapes = {}
+    for name, value in with_widths(func, bound.arguments).items():
+        if holds_bits(value):
+            flat, shape = flatten(value, func.__name__)
+            shapes[name] = (len(actual), len(flat), shape)
+            params += [(name if shape is None else f"{name}{i}", each.width) for i, each in enumerate(flat)]
+            actual += flat
+
+    def body(nodes: List[Node]) -> Tuple[List[Node], Shape]:
+        for name, (at, count, shape) in shapes.items():
+            given = [type(value)(node) for value, node in zip(actual[at:at + count], nodes[at:at + count])]
+            bound.arguments[name] = unflatten(shape, given)
+        flat, shape = flatten(func(*bound.args, **bound.kwargs), func.__name__)
+        return [each.node for each in flat], (shape, [type(each) for each in flat])
+    program = current()
+    quiet, program.quiet = program.quiet, False
+    try:
+        title, results, (shape, kinds) = program.function(func.__name__, params, body)
+    finally:
+        program.quiet = quiet
+    given = [each.node for each in actual] or [Const(0, 1).node]
+    whole = Bits(scope().add("call", title, given, sum(each.width for each in results)))
+    return unflatten(shape, [kind(part.node) for kind, part in zip(kinds, cut_results(whole, title, results))])
+
+
+def with_widths(func: Callable[..., Any], arguments: Mapping[str, Any]) -> Dict[str, Any]:
+    """The arguments, of which those with a width of their own are Bits of this width."""
+    out, known = dict(arguments), widths(func)
+    for name in known.keys() & out.keys():
+        value, wanted = out[name], known[name]
+        if not is_bits(value):
+            out[name] = wanted.kind(Const(value, wanted.width).node)
+        elif value.width != wanted.width:
+            raise WidthError(f"`{name}` of `{func.__name__}` has {wanted.width} bits, and {said(value)} {value.width}")
+        elif type(value) is not wanted.kind:
+            raise KindError(f"`{name}` of `{func.__name__}` is {wanted!r}, and {said(value)} "
+                            f"{Width(value.width, type(value))}: as_signed(..) or .as_unsigned() makes both the same")
+    return out
 
 
 def cut_results(whole: Bits, title: str, results: Sequence[Node]) -> List[Bits]:
@@ -155,5 +171,5 @@ def clean(x: Bits) -> None:
 def require(x: Bits) -> None:
     """Claim that the bit x is 1 on every input. `check` and `compile` prove it, and it costs no gate."""
     if not is_bits(x) or x.width != 1:
-        raise WidthError("require(%s): one bit is claimed: a comparison, or .all()" % said(x))
+        raise WidthError(f"require({said(x)}): one bit is claimed: a comparison, or .all()")
     scope().add("assert", None, [x.node], 1, "")

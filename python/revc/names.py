@@ -10,7 +10,7 @@ import sys
 from types import CodeType
 from typing import Any, Dict, Iterator, List, Optional, Tuple
 
-HERE = os.path.dirname(os.path.abspath(__file__))
+HERE = os.path.dirname(os.path.abspath(__file__)) + os.sep  # of this package, with those inside it
 WORDS = set("main let fun clean assert append rotate reg true false bool for in do revs".split())
 STORES = {"STORE_FAST", "STORE_NAME", "STORE_GLOBAL", "STORE_DEREF"}
 SKIPPED = {"CACHE", "EXTENDED_ARG", "COPY", "DUP_TOP", "PRECALL", "RESUME"}
@@ -25,7 +25,7 @@ def author(unpacked: bool = False) -> Tuple[Any, Optional[Place]]:
     With `unpacked` the name is a list of names where the value is unpacked, as by `x, y = ..`.
     """
     frame = sys._getframe(1)
-    while frame is not None and os.path.dirname(frame.f_code.co_filename) == HERE:
+    while frame is not None and frame.f_code.co_filename.startswith(HERE):
         frame = frame.f_back
     if frame is None:
         return None, None
@@ -37,7 +37,7 @@ def author(unpacked: bool = False) -> Tuple[Any, Optional[Place]]:
         if kind != "return":
             return name, place
         frame = frame.f_back
-        if frame is None or os.path.dirname(frame.f_code.co_filename) == HERE:
+        if frame is None or frame.f_code.co_filename.startswith(HERE):
             break
     return None, place
 

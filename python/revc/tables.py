@@ -10,8 +10,10 @@ import random
 from typing import Dict, List, Optional, Sequence, Tuple
 
 from .arithmetic import library
-from .errors import RevcError, WidthError
-from .operations import Cat, Const, of_bits, said
+from .completions import Entries, completed
+from .errors import KnownLater, WidthError
+from .operations import Cat, Const, of_bits, said, spelled
+from .spans import Span, basis
 from .trace import current, one_name
 from .values import Bits
 
@@ -37,35 +39,6 @@ def masks(k: int) -> List[int]:
 def parts(f: int, mask: int, i: int) -> Tuple[int, int]:
     """A and B of f = A + x B, x being variable i and `mask` its products."""
     return f & ~mask, (f & mask) >> (1 << i)
-
-
-class Span:
-    """A basis by Gauss's elimination; each vector with the sum of generators that it is."""
-
-    def __init__(self) -> None:
-        self.rows: Dict[int, Tuple[int, int]] = {}
-
-    def reduced(self, vector: int, how: int = 0) -> Tuple[int, int]:
-        while vector:
-            row = self.rows.get(vector.bit_length())
-            if row is None:
-                break
-            vector, how = vector ^ row[0], how ^ row[1]
-        return vector, how
-
-    def add(self, vector: int, how: int = 0) -> bool:
-        vector, how = self.reduced(vector, how)
-        if vector:
-            self.rows[vector.bit_length()] = (vector, how)
-        return bool(vector)
-
-
-def basis(vectors: Sequence[int], without: int) -> List[int]:
-    """A basis of the vectors, from which the terms `without` are dropped."""
-    span = Span()
-    for vector in vectors:
-        span.add(vector & ~without)
-    return [row for row, _ in span.rows.values()]
 
 
 def linear(k: int) -> int:
@@ -110,33 +83,66 @@ def columns(values: Sequence[int], m: int, k: int, matrix: Sequence[int]) -> Lis
     return [polynomial([value >> j & 1 for value in moved], k) for j in range(m)]
 
 
-@one_name
-def table(x: Bits, values: Sequence[int], width: Optional[int] = None) -> Bits:
-    """The entry of `values`, a list of 2^n numbers, that x says; of `width` bits, or as many as the greatest needs."""
-    k, values = x.width, list(values)
-    if len(values) != 1 << k:
-        raise WidthError("table(%s, ..): %d entries, and a number of %d bits chooses among %d"
-                         % (said(x), len(values), k, 1 << k))
-    if not all(isinstance(value, int) for value in values):
-        raise RevcError("table(%s, ..): entries are numbers that are known now; of others make a Switch" % said(x))
-    m = width or max(max(values).bit_length(), 1)
-    if min(values) < 0 or max(values) >> m:
-        raise WidthError("table: %d does not fit in %d bits" % (min(values) if min(values) < 0 else max(values), m))
-    key = ("table", k, m, tuple(values))
-    if key in current().library:
-        return library("", [x], lambda x: x, key)
+def checked(x: Bits, values: Entries, width: Optional[int]) -> int:
+    """The bits of the entries of a table that x chooses from."""
+    if len(values) != 1 << x.width:
+        raise WidthError(wrong_length(x, len(values)))
+    if not all(value is None or isinstance(value, int) for value in values):
+        raise KnownLater(f"table({said(x)}, ..): entries are numbers that are known now, or None where they may be anything; "
+                         "of others make a Switch")
+    known = [value for value in values if value is not None] or [0]
+    m = width or max(max(known).bit_length(), 1)
+    if min(known) < 0 or max(known) >> m:
+        raise WidthError(f"table: {min(known) if min(known) < 0 else max(known)} does not fit in {m} bits")
+    return m
+
+
+def best_change(values: Sequence[int], m: int, k: int) -> Tuple[List[int], List[int]]:
+    """The linear variables and their order of the fewest ANDs that are found."""
     matrix = [1 << i for i in range(k)]
-    best, chance = best_order(columns(values, m, k, matrix), k), random.Random(1)
+    fs = columns(values, m, k, matrix)
+    best, chance = best_order(fs, k), random.Random(1)
+    least = len(basis(fs, linear(k)))  # so many ANDs at least
     for _ in range(CHANGES.get(k, 0)):
+        if best[0] == least:
+            break
         trial = invertible(k, chance)
         found = best_order(columns(values, m, k, trial), k)
         if found[0] < best[0]:
             best, matrix = found, trial
+    return matrix, best[1]
+
+
+@one_name
+def table(x: Bits, values: Entries, width: Optional[int] = None) -> Bits:
+    """The entry of `values`, a list of 2^n numbers, that x says; of `width` bits, or as many as the greatest needs.
+
+    Where an entry is None it may be anything: what saves ANDs is taken.
+    """
+    k, values = x.width, list(values)
+    m = checked(x, values, width)
+    key = ("table", k, m, tuple(values))
+    if key in current().library:
+        return library("", [x], lambda x: x, key)
+    if None in values:
+        same = [1 << i for i in range(k)]
+        values = completed(values, m, k, lambda each: best_order(columns(each, m, k, same), k)[0])
+    matrix, order = best_change(values, m, k)
 
     def body(x: Bits) -> Bits:
         variables = [added([x[j] for j in range(k) if row >> j & 1]) for row in matrix]
-        return Cat(*computed(variables, columns(values, m, k, matrix), best[1], k))
-    return library("table%d_%d" % (k, m), [x], body, key)
+        return Cat(*computed(variables, columns(values, m, k, matrix), order, k))
+    return library(f"table{k}_{m}", [x], body, key)
+
+
+def wrong_length(x: Bits, entries: int) -> str:
+    """What is wrong with a table that has not an entry for each number of x, and what helps."""
+    wanted = 1 << x.width
+    says = f"table({said(x)}, ..): {entries} entries, and a number of {x.width} bits chooses among {wanted}: "
+    if entries > wanted:
+        return says + f"give it {(entries - 1).bit_length()} bits, widen({spelled(x)}, {(entries - 1).bit_length()})"
+    return says + (f"pad it, values + [0] * {wanted - entries}, or say what all others are, "
+                   f"Switch({spelled(x)}, {{.., None: 0}})")
 
 
 def added(terms: List[Bits]) -> Bits:
@@ -168,5 +174,5 @@ def computed(x: List[Bits], fs: List[int], order: List[int], k: int) -> List[Bit
         todo = [(b << (1 << i), express(b)) for b in factors]
         learn(1 << (1 << i), x[i])
         for f, value in todo:
-            learn(f, of_bits("and", x[i], value).named("p%d" % len(values)))
+            learn(f, of_bits("and", x[i], value).named(f"p{len(values)}"))
     return [express(f) for f in fs]

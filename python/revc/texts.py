@@ -19,22 +19,22 @@ def operation(program: "Program", kind: str, key: Key) -> str:
 
 
 def places(low: int, high: int) -> str:
-    return ".[%d..%d]" % (low, high - 1) if high - low > 1 else ".[%d]" % low
+    return f".[{low}..{high - 1}]" if high - low > 1 else f".[{low}]"
 
 
 def bitwise(kind: str, names: str, wide: str, each: str) -> Callable[["Program", int], str]:
     """Place by place. `names` are the arguments, those in `wide` are registers, and `each` says a place @."""
     def half(program: "Program", low: int, high: int) -> str:
         if high - low == 1:
-            return "(reg [%s])" % each.replace("@", ".[%d]" % low)
+            return "(reg [%s])" % each.replace("@", f".[{low}]")
         given = [name + places(low, high) if name in wide else name for name in names.split()]
-        return "(%s)" % " ".join([operation(program, kind, high - low)] + given)
+        return f"({' '.join([operation(program, kind, high - low)] + given)})"
 
     def write(program: "Program", n: int) -> str:
         if n <= ROW:
-            row = [each.replace("@", ".[%d]" % i) for i in range(n)]
-            return "%s = reg [%s]" % (names, "; ".join(row))
-        return "%s = append %s %s" % (names, half(program, 0, n - n // 2), half(program, n - n // 2, n))
+            row = [each.replace("@", f".[{i}]") for i in range(n)]
+            return f"{names} = reg [{'; '.join(row)}]"
+        return f"{names} = append {half(program, 0, n - n // 2)} {half(program, n - n // 2, n)}"
     return write
 
 
@@ -42,20 +42,20 @@ def by_halves(kind: str, names: str, each: str, sign: str) -> Callable[["Program
     """One bit of all places, by halves, so that the depth is logarithmic."""
     def half(program: "Program", low: int, high: int) -> str:
         if high - low == 1:
-            return each.replace("@", ".[%d]" % low)
+            return each.replace("@", f".[{low}]")
         return " ".join([operation(program, kind, high - low)] + [name + places(low, high) for name in names.split()])
 
     def write(program: "Program", n: int) -> str:
-        return "%s = %s %s %s" % (names, half(program, 0, n - n // 2), sign, half(program, n - n // 2, n))
+        return f"{names} = {half(program, 0, n - n // 2)} {sign} {half(program, n - n // 2, n)}"
     return write
 
 
 def zeros(program: "Program", n: int) -> str:
     """A function with an argument that is not used: its body makes new locations at each call."""
     if n <= 32:
-        return "u = reg [%s]" % "; ".join(["false"] * n)
+        return f"u = reg [{'; '.join(['false'] * n)}]"
     high, low = operation(program, "zeros", n - n // 2), operation(program, "zeros", n // 2)
-    return "u = append (%s u) (%s u)" % (high, low)
+    return f"u = append ({high} u) ({low} u)"
 
 
 # r begins as x XOR y. The carry of x + y is y where x and y are equal, else the carry c before; that of x - y is c

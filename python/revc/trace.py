@@ -3,13 +3,15 @@
 A value is a node of a scope: that of `main`, or that of a function of the text. A scope writes its nodes as lines.
 """
 import functools
-from typing import Any, Callable, Dict, List, Optional, Sequence, Set, Tuple
+from typing import Any, Callable, Dict, List, Optional, Sequence, Set, Tuple, TypeVar, cast
 
 from .errors import RevcError, WidthError
 from .names import WORDS, Place, as_name, author
 from .writing import ATOM, Line, scope_lines
 
 WIDEST = 4096  # places of a register
+
+Operation = TypeVar("Operation", bound=Callable[..., Any])
 
 
 class Node:
@@ -27,7 +29,7 @@ class Node:
     @property
     def said(self) -> str:
         name = self.name or self.hint
-        return "`%s`" % name if name else "this value"
+        return f"`{name}`" if name else "this value"
 
 
 class Scope:
@@ -52,9 +54,9 @@ class Scope:
 
     def add(self, kind: str, data: Any, args: Sequence[Node], width: int, hint: Optional[str] = None) -> Node:
         if width > WIDEST:
-            raise WidthError("a value of %d bits: a register has at most 4,096 places" % width)
+            raise WidthError(f"a value of {width} bits: a register has at most 4,096 places")
         if self.program.scope is not self:
-            raise RevcError("`%s` is not being traced now" % self.title)
+            raise RevcError(f"`{self.title}` is not being traced now")
         node = Node(kind, data, tuple(self.use(each) for each in args), width, self)
         if kind in ("clean", "assert") and width > 1:
             node.args[0].forced = True  # a loop goes over its places
@@ -70,8 +72,9 @@ class Scope:
         if node.scope is not self:
             main = self.program.stack[0]
             if node.scope is not main:
-                raise RevcError("%s belongs to `%s` and is used in `%s`: give it as an argument, or return it"
-                                % (node.said, node.scope.title if node.scope else "?", self.title))
+                owner = node.scope.title if node.scope else "?"
+                raise RevcError(f"{node.said} belongs to `{owner}` and is used in `{self.title}`: give it as an argument, or "
+                                "return it")
             node.forced = True
             self.outer.add(main.name_of(node))
         node.uses += 1
@@ -97,7 +100,7 @@ class Scope:
             name = base if node.hint else ""
             while not name or self.is_taken(name):
                 k += 1
-                name = "%s_%d" % (base, k) if node.hint else "t%d" % k
+                name = f"{base}_{k}" if node.hint else f"t{k}"
             self.counts[base] = k
             self.names.add(name)
             self.program.every.add(name)
@@ -129,7 +132,7 @@ class Program:
         k = 1
         while name in self.functions or name in self.every:
             k += 1
-            name = "%s_%d" % (base, k)
+            name = f"{base}_{k}"
         self.functions.add(name)
         return name
 
@@ -137,7 +140,7 @@ class Program:
         if name not in self.operations:
             text = write()  # may ask for others, which then stand before it
             self.operations[name] = self.claim_name(name)
-            self.top += [(line, None) for line in ("let %s %s;" % (self.operations[name], text)).split("\n")]
+            self.top += [(line, None) for line in (f"let {self.operations[name]} {text};").split("\n")]
         return self.operations[name]
 
     def function(self, title: str, params: Sequence[Tuple[str, int]], body: Callable[[List[Node]], Any],
@@ -149,7 +152,7 @@ class Program:
             nodes = [scope.parameter(hint, width) for hint, width in params]
             results, shape = body(nodes)
             if not results:
-                raise RevcError("the function `%s` returns no bits" % title)
+                raise RevcError(f"the function `{title}` returns no bits")
             packed = scope.use(pack(scope, results))
             place = self.place if top else author()[1]
             for node in nodes:
@@ -159,13 +162,13 @@ class Program:
             self.stack.pop()
         head, last = " ".join(node.name or "" for node in nodes) or "u", packed.name or packed.text
         if not lines and len(last) < 90:
-            text: List[Line] = [("%s = %s;" % (head, last), place)]
+            text: List[Line] = [(f"{head} = {last};", place)]
         else:
-            text = [("%s = {" % head, place)] + lines + [("  %s };" % last, place)]
+            text = [(f"{head} = {{", place)] + lines + [(f"  {last} }};", place)]
         key = title + " " + "\n".join(line for line, _ in text)
         if key not in self.bodies:
             self.bodies[key] = name = self.claim_name(title)
-            text[0] = ("let %s %s" % (name, text[0][0]), place)
+            text[0] = (f"let {name} {text[0][0]}", place)
             if scope.claims:
                 self.claiming.add(name)
             if top:
@@ -180,8 +183,8 @@ class Program:
         packed = scope.use(pack(scope, results))
         lines = scope_lines(scope, packed)
         body = [("  " + text, place) for text, place in self.top] + lines + [("  " + (packed.name or packed.text), None)]
-        heads = ["(%s : bool%s)" % (each.name, "" if each.width == 1 else "[%d]" % each.width) for each in params]
-        return ([("revs 2 main %s = {" % " ".join(heads), None), ("  let O = false; let I = true;", None)]
+        heads = ["(%s : bool%s)" % (each.name, "" if each.width == 1 else f"[{each.width}]") for each in params]
+        return ([(f"revs 2 main {' '.join(heads)} = {{", None), ("  let O = false; let I = true;", None)]
                 + body + [("}", None)])
 
 
@@ -216,7 +219,7 @@ def current() -> Program:
     return programs[-1]
 
 
-def one_name(function: Any) -> Any:
+def one_name(function: Operation) -> Operation:
     """An operation of the library, which may take several nodes: its last one has the author's name."""
     @functools.wraps(function)
     def called(*args: Any, **named: Any) -> Any:
@@ -239,4 +242,4 @@ def one_name(function: Any) -> Any:
             if name and not node.hint and node.name is None and id(node) in new:
                 node.hint = name
         return out
-    return called
+    return cast(Operation, called)

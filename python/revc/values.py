@@ -1,24 +1,45 @@
-"""`Bits`: unsigned numbers of a fixed number of bits. They never change; each operation gives a new value."""
-from typing import Any, Iterator, List, Tuple, Union
+"""`Bits`: unsigned numbers of a fixed number of bits. They never change; each operation gives a new value.
 
-from .errors import RevcError, WidthError
-from .trace import WIDEST, Node, one_name
-from . import operations as ops
+What its operators do stands in the layers above, which enter it here by `means`.
+"""
+from typing import Any, Callable, Dict, Iterator, List, NoReturn, Optional, Tuple, Type, TypeVar, Union, cast
+
+from .errors import KindError, KnownLater, WidthError
+from .trace import WIDEST, Node, Scope, current, one_name
+
+Operand = Union["Bits", int]  # a number takes the width of the value beside it
+Function = TypeVar("Function", bound=Callable[..., Any])
+
+MEANS: Dict[str, Callable[..., Any]] = {}
+KEEP = {"~", "&", "^", "|", "+", "-", "from", "<<", "rotate", "put"}  # whose results are Signed where the value is
+
+
+def means(sign: str) -> Callable[[Function], Function]:
+    """Makes a function what an operator of `Bits` does; of the nodes that it takes the last has the author's name."""
+    def enter(function: Function) -> Function:
+        MEANS[sign] = one_name(function)
+        return function
+    return enter
+
+
+def apply(sign: str, *args: Any) -> "Bits":
+    found = cast("Bits", MEANS[sign](*args))
+    return like(args[0], found) if sign in KEEP else found
 
 
 class Width:
-    """`Bits[n]`, the annotation of a parameter of n bits."""
+    """`Bits[n]`, the annotation of a parameter of n bits; `kind` is its class."""
 
-    def __init__(self, width: int):
+    def __init__(self, width: int, kind: "Type[Bits]"):
         if not isinstance(width, int) or isinstance(width, bool) or not 1 <= width <= WIDEST:
-            raise WidthError("Bits[%r]: a width is a number from 1 to 4,096" % (width,))
-        self.width = width
+            raise WidthError(f"{kind.__name__}[{width!r}]: a width is a number from 1 to 4,096")
+        self.width, self.kind = width, kind
 
     def __repr__(self) -> str:
-        return "Bits[%d]" % self.width
+        return f"{self.kind.__name__}[{self.width}]"
 
-    def __call__(self, *args: Any) -> None:
-        raise RevcError("%r is a type: write Const(value, %d) for a number" % (self, self.width))
+    def __call__(self, *args: object) -> NoReturn:
+        raise KindError(f"{self!r} is a type: write Const(value, {self.width}) for a number")
 
 
 class Bits:
@@ -28,12 +49,13 @@ class Bits:
     width; a number of Python's takes the width of the value beside it.
     """
     __array_priority__ = 1000  # before numpy's arrays
+    is_signed = False
 
     def __init__(self, node: Node):
         self.node = node
 
     def __class_getitem__(cls, width: int) -> Width:
-        return Width(width)
+        return Width(width, cls)
 
     @property
     def width(self) -> int:
@@ -43,7 +65,7 @@ class Bits:
         return self.node.width
 
     def __repr__(self) -> str:
-        return "<%s: Bits[%d]>" % (ops.said(self), self.width)
+        return f"<{said(self)}: {Width(self.width, type(self))}>"
 
     def named(self, name: str) -> "Bits":
         """The same value, called `name` in the text."""
@@ -53,208 +75,197 @@ class Bits:
 
     # ---- What is refused, with what helps
 
-    def __bool__(self) -> bool:
-        name = ops.said(self)
-        raise RevcError(
-            "%s is known only when the circuit runs: use Mux(%s, x, y) for `if`, & for `and`, | for `or`, ~ for `not`, "
-            "require for `assert`, (a < b) & (b < c) for `a < b < c`, (x == a) | (x == b) for `x in [a, b]`"
-            % (name, name.strip("`") if self.node.said != "this value" else "c"))
+    def __bool__(self) -> NoReturn:
+        name = self.node.name or self.node.hint or "c"
+        raise KnownLater(
+            f"{said(self)} is known only when the circuit runs: use Mux({name}, x, y) for `if`, & for `and`, | for `or`, ~ "
+            "for `not`, require for `assert`, (a < b) & (b < c) for `a < b < c`, (x == a) | (x == b) for `x in [a, b]`")
 
-    def __index__(self) -> int:
-        raise RevcError("%s is no number of Python's: use Switch or table for an entry that a value chooses, or "
-                        "give a width by a number" % ops.said(self))
+    def __index__(self) -> NoReturn:
+        raise KnownLater(f"{said(self)} is no number of Python's: use Switch or table for an entry that a value chooses, or "
+                         "give a width by a number")
 
     __int__ = __index__
 
-    def __hash__(self) -> int:
-        raise RevcError("%s is no key: Switch(x, {0: .., 1: ..}) chooses by a value" % ops.said(self))
+    def __hash__(self) -> NoReturn:
+        raise KnownLater(f"{said(self)} is no key: Switch(x, {{0: .., 1: ..}}) chooses by a value")
 
-    def __setitem__(self, place: Any, value: Any) -> None:
-        raise RevcError("values do not change: write x = x.put(place, bit), or Cat of its parts, for %s" % ops.said(self))
+    def __setitem__(self, place: object, value: object) -> NoReturn:
+        raise KindError(f"values do not change: write x = x.put(place, bit), or Cat of its parts, for {said(self)}")
 
-    def __contains__(self, item: Any) -> bool:
-        raise RevcError("`in` asks for a known answer: use (x == a) | (x == b), or x[0] | x[1] of bits")
+    def __contains__(self, item: object) -> NoReturn:
+        raise KnownLater("`in` asks for a known answer: use (x == a) | (x == b), or x[0] | x[1] of bits")
 
-    def __truediv__(self, other: Any) -> "Bits":
-        raise RevcError("%s / ..: Bits are whole numbers: use // or divmod, by a number that is known now" % ops.said(self))
+    def __truediv__(self, other: object) -> NoReturn:
+        raise KindError(f"{said(self)} / ..: Bits are whole numbers: use // or divmod, by a number that is known now")
 
-    def __rdivmod__(self, other: Any) -> Tuple["Bits", "Bits"]:
-        raise RevcError("%r by %s: only by a number that is known now; of few values make a table" % (other, ops.said(self)))
-
-    def __rfloordiv__(self, other: Any) -> "Bits":
-        return divmod(other, self)[0]
-
-    __rtruediv__ = __rmod__ = __rfloordiv__
-
-    def __rlshift__(self, other: Any) -> "Bits":
-        raise RevcError("%r shifted by %s: give the number a width: Const(%r, n)" % (other, ops.said(self), other))
+    def __rlshift__(self, other: object) -> NoReturn:
+        raise WidthError(f"{other!r} shifted by {said(self)}: give the number a width: Const({other!r}, n)")
 
     __rrshift__ = __rlshift__
 
-    def __pow__(self, other: Any) -> "Bits":
-        raise RevcError("%s ** %r: write x * x, which costs about half of a product" % (ops.said(self), other))
+    def __pow__(self, other: object) -> NoReturn:
+        raise KindError(f"{said(self)} ** {other!r}: write x * x, which costs about half of a product")
 
     # ---- Places
 
-    @one_name
     def __getitem__(self, place: Union[int, slice]) -> "Bits":
-        if isinstance(place, slice):
-            low, high, step = place.indices(self.width)
-            if step != 1:
-                return ops.Cat(*[self[i] for i in range(low, high, step)])
-            if place.stop is not None and place.stop > self.width:
-                raise WidthError("%s has %d bits: it has no place %d" % (ops.said(self), self.width, place.stop - 1))
-            if high <= low:
-                raise WidthError("%s has %d bits: [%s:%s] takes none"
-                                 % (ops.said(self), self.width, place.start, place.stop))
-            return Bits(ops.cut(self.node, low, high))
-        if isinstance(place, Bits):
-            raise RevcError("%s is no place that is known now: use Switch, or (%s >> %s)[0]"
-                            % tuple(map(ops.said, (place, self, place))))
-        if not -self.width <= place < self.width:
-            raise WidthError("%s has %d bits: it has no place %d" % (ops.said(self), self.width, place))
-        place %= self.width
-        return Bits(ops.cut(self.node, place, place + 1))
+        return apply("[]", self, place)
 
     def __iter__(self) -> Iterator["Bits"]:
         return iter([self[i] for i in range(self.width)])
 
-    @one_name
-    def put(self, place: int, bit: Any) -> "Bits":
+    def put(self, place: int, bit: Operand) -> "Bits":
         """The same bits but for one place."""
-        if not -self.width <= place < self.width:
-            raise WidthError("%s has %d bits: it has no place %d" % (ops.said(self), self.width, place))
-        place %= self.width
-        below = [self[:place]] if place else []
-        above = [self[place + 1:]] if place + 1 < self.width else []
-        return ops.Cat(*below, ops.as_bits(bit, 1), *above)
+        return apply("put", self, place, bit)
 
-    @one_name
     def split(self, width: int) -> List["Bits"]:
         """Words of `width` bits, the lowest first."""
-        if width < 1 or self.width % width:
-            raise WidthError("%s has %d bits, which are no words of %d" % (ops.said(self), self.width, width))
-        return [self[i:i + width] for i in range(0, self.width, width)]
+        return cast(List["Bits"], MEANS["split"](self, width))
 
     # ---- Bit by bit
 
-    @one_name
     def __invert__(self) -> "Bits":
-        return ops.inverse(self)
+        return apply("~", self)
 
-    @one_name
-    def __and__(self, other: Any) -> "Bits":
-        return ops.bitwise("and", *ops.pair(self, other, "&"))
+    def __and__(self, other: Operand) -> "Bits":
+        return apply("&", self, other)
 
-    @one_name
-    def __xor__(self, other: Any) -> "Bits":
-        return ops.bitwise("xor", *ops.pair(self, other, "^"))
+    def __xor__(self, other: Operand) -> "Bits":
+        return apply("^", self, other)
 
-    @one_name
-    def __or__(self, other: Any) -> "Bits":
-        return ops.bitwise("or", *ops.pair(self, other, "|"))
+    def __or__(self, other: Operand) -> "Bits":
+        return apply("|", self, other)
 
     __rand__, __rxor__, __ror__ = __and__, __xor__, __or__
 
     # ---- Numbers
 
-    @one_name
-    def __add__(self, other: Any) -> "Bits":
-        return ops.add(*ops.pair(self, other, "+"))
+    def __add__(self, other: Operand) -> "Bits":
+        return apply("+", self, other)
 
     __radd__ = __add__
 
-    @one_name
-    def __sub__(self, other: Any) -> "Bits":
-        return ops.sub(*ops.pair(self, other, "-"))
+    def __sub__(self, other: Operand) -> "Bits":
+        return apply("-", self, other)
 
-    @one_name
-    def __rsub__(self, other: Any) -> "Bits":
-        return ops.sub(ops.as_bits(other, self.width, self), self)
+    def __rsub__(self, other: int) -> "Bits":
+        return apply("from", self, other)
 
-    @one_name
     def __neg__(self) -> "Bits":
-        return 0 - self
+        return apply("from", self, 0)
 
-    @one_name
-    def __mul__(self, other: Any) -> "Bits":
-        from .arithmetic import product
-        return product(self, other)
+    def __mul__(self, other: Operand) -> "Bits":
+        return apply("*", self, other)
 
     __rmul__ = __mul__
 
-    @one_name
-    def __divmod__(self, other: Any) -> Tuple["Bits", "Bits"]:
-        from .arithmetic import quotient
-        return quotient(self, other)
+    def __divmod__(self, other: Operand) -> Tuple["Bits", "Bits"]:
+        return cast(Tuple["Bits", "Bits"], MEANS["divmod"](self, other))
 
-    @one_name
-    def __floordiv__(self, other: Any) -> "Bits":
-        return divmod(self, other)[0]
+    def __floordiv__(self, other: Operand) -> "Bits":
+        return apply("//", self, other)
 
-    @one_name
-    def __mod__(self, other: Any) -> "Bits":
-        return divmod(self, other)[1]
+    def __mod__(self, other: Operand) -> "Bits":
+        return apply("%", self, other)
+
+    def __rdivmod__(self, other: int) -> Tuple["Bits", "Bits"]:
+        return cast(Tuple["Bits", "Bits"], MEANS["rdivmod"](self, other))
+
+    def __rfloordiv__(self, other: int) -> "Bits":
+        return divmod(other, self)[0]
+
+    def __rmod__(self, other: int) -> "Bits":
+        return divmod(other, self)[1]
+
+    __rtruediv__ = __rfloordiv__
 
     # ---- Moving places
 
-    @one_name
-    def __lshift__(self, k: Any) -> "Bits":
-        return ops.shifted(self, k, "<<", lambda x, n: ops.Cat(ops.Const(0, n), x[:x.width - n]))
+    def __lshift__(self, k: Operand) -> "Bits":
+        return apply("<<", self, k)
 
-    @one_name
-    def __rshift__(self, k: Any) -> "Bits":
-        return ops.shifted(self, k, ">>", lambda x, n: ops.Cat(x[n:], ops.Const(0, n)))
+    def __rshift__(self, k: Operand) -> "Bits":
+        return apply(">>", self, k)
 
-    @one_name
-    def rotate_left(self, k: Any) -> "Bits":
+    def rotate_left(self, k: Operand) -> "Bits":
         """Place i goes to place i + k. `k` may be a value: an AND for each of its bits and each place."""
-        return ops.rotated(self, k, 1)
+        return apply("rotate", self, k, 1)
 
-    @one_name
-    def rotate_right(self, k: Any) -> "Bits":
+    def rotate_right(self, k: Operand) -> "Bits":
         """Place i goes to place i - k."""
-        return ops.rotated(self, k, -1)
+        return apply("rotate", self, k, -1)
 
     # ---- Comparisons
 
-    @one_name
-    def __eq__(self, other: Any) -> "Bits":  # type: ignore[override]
-        return ops.equal(*ops.pair(self, other, "=="))
+    def __eq__(self, other: Operand) -> "Bits":  # type: ignore[override]
+        return apply("==", self, other)
 
-    @one_name
-    def __ne__(self, other: Any) -> "Bits":  # type: ignore[override]
-        return ~(self == other)
+    def __ne__(self, other: Operand) -> "Bits":  # type: ignore[override]
+        return apply("!=", self, other)
 
-    @one_name
-    def __lt__(self, other: Any) -> "Bits":
-        return ops.less(*ops.pair(self, other, "<"))
+    def __lt__(self, other: Operand) -> "Bits":
+        return apply("<", self, other)
 
-    @one_name
-    def __ge__(self, other: Any) -> "Bits":
-        return ~ops.less(*ops.pair(self, other, ">="))
+    def __ge__(self, other: Operand) -> "Bits":
+        return apply(">=", self, other)
 
-    @one_name
-    def __gt__(self, other: Any) -> "Bits":
-        return ops.less(*ops.pair(self, other, ">")[::-1])
+    def __gt__(self, other: Operand) -> "Bits":
+        return apply(">", self, other)
 
-    @one_name
-    def __le__(self, other: Any) -> "Bits":
-        return ~ops.less(*ops.pair(self, other, "<=")[::-1])
+    def __le__(self, other: Operand) -> "Bits":
+        return apply("<=", self, other)
 
     # ---- All bits at once
 
-    @one_name
     def all(self) -> "Bits":
         """1 where each bit is 1."""
-        return ops.of_all("all", self)
+        return apply("all", self)
 
-    @one_name
     def any(self) -> "Bits":
         """1 where some bit is 1."""
-        return self if self.width == 1 else ~ops.of_all("none", self)
+        return apply("any", self)
 
-    @one_name
     def xor(self) -> "Bits":
         """1 where an odd number of bits is 1."""
-        return ops.of_all("parity", self)
+        return apply("xor", self)
+
+
+# ---- Values and what they are called
+
+
+def scope() -> Scope:
+    return current().scope
+
+
+def bits(node: Node) -> Bits:
+    return Bits(node)
+
+
+def is_bits(value: object) -> bool:
+    return isinstance(value, Bits)
+
+
+def said(value: object) -> str:
+    """A value in a sentence: its name, `this value`, or a number of Python's as it is."""
+    return value.node.said if isinstance(value, Bits) else repr(value)
+
+
+def spelled(value: Bits) -> str:
+    """A value as it stands in a piece of code that helps."""
+    return value.node.name or value.node.hint or "(..)"
+
+
+def like(x: Bits, y: Bits) -> Bits:
+    """The bits of y as a value of the class of x."""
+    return y if type(x) is type(y) else type(x)(y.node)
+
+
+def plain(x: Bits) -> Bits:
+    """The bits of a value, which may be Signed, as an unsigned number."""
+    return Bits(x.node) if x.is_signed else x
+
+
+def number(value: Bits) -> Optional[int]:
+    """The number that a constant is."""
+    return cast(int, value.node.data) if value.node.kind == "const" else None

@@ -36,11 +36,11 @@ def scope_lines(scope: "Scope", last: "Node") -> List[Line]:
         elif node.kind == "name":
             node.text = scope.name_of(node)
         elif node.kind in ("clean", "assert"):
-            out.append(("  %s;" % written(node, scope)[0], node.place))
+            out.append((f"  {written(node, scope)[0]};", node.place))
         else:
             text, tight = written(node, scope)
             if has_own_line(node, last, text):
-                out.append(("  let %s = %s;" % (scope.name_of(node), text), node.place))
+                out.append((f"  let {scope.name_of(node)} = {text};", node.place))
                 text, tight = scope.name_of(node), ATOM
             node.text, node.tight = text, tight
     return out
@@ -50,7 +50,7 @@ def has_own_line(node: "Node", last: "Node", text: str) -> bool:
     if node.kind == "const" and not node.hint:
         own = node.width > 8 and node.uses > 1 or node.forced
         if own and not node.name:
-            node.hint = "k%x" % node.data
+            node.hint = f"k{node.data:x}"
         return own
     if node.kind in ("slice", "rotate") and not node.hint and not node.forced and len(text) < SHORT:
         return False
@@ -69,9 +69,9 @@ def written(node: "Node", scope: "Scope") -> Tuple[str, int]:
         return bits[0] if width == 1 else "reg [" + "; ".join(bits) + "]", ATOM
     if kind == "slice":
         low, high = node.data
-        return "%s.[%s]" % (get(args[0], ATOM), low if width == 1 else "%d..%d" % (low, high - 1)), ATOM
+        return "%s.[%s]" % (get(args[0], ATOM), low if width == 1 else f"{low}..{high - 1}"), ATOM
     if kind == "rotate":
-        return "rotate %d %s" % (node.data, get(args[0], ATOM)), APPLIED
+        return f"rotate {node.data} {get(args[0], ATOM)}", APPLIED
     if kind == "reg":
         return "reg [" + "; ".join(get(each, SUM) for each in args) + "]", ATOM
     if kind in ("append", "call"):
@@ -83,5 +83,5 @@ def written(node: "Node", scope: "Scope") -> Tuple[str, int]:
     assert kind in ("clean", "assert")
     # the claim is of a new bit, since a cleaned location holds nothing any more
     if args[0].width == 1:
-        return "%s (O <> %s)" % (kind, get(args[0], PRODUCT)), SUM
-    return "for i in 0 .. %d do { %s (O <> %s.[i]); }" % (width - 1, kind, get(args[0], ATOM)), SUM
+        return f"{kind} (O <> {get(args[0], PRODUCT)})", SUM
+    return f"for i in 0 .. {width - 1} do {{ {kind} (O <> {get(args[0], ATOM)}.[i]); }}", SUM

@@ -90,7 +90,7 @@ class Circuits(unittest.TestCase):
                          tuple(int(counted[name]) for name in ("lines", "gates", "ccx", "cx", "x", "depth")))
         self.assertEqual((cost.inputs, cost.outputs, cost.borrowed, cost.t), (4, 1, 0, 7 * cost.toffoli))
         self.assertLessEqual(cost.toffoli_depth, cost.toffoli)
-        self.assertIn("%d lines (4 inputs, 1 output, %d work)" % (cost.lines, cost.work), str(cost))
+        self.assertIn(f"{cost.lines} lines (4 inputs, 1 output, {cost.work} work)", str(cost))
 
     def test_borrowed_lines(self) -> None:
         circuit = small.compile("eager", borrow=3)

@@ -1,11 +1,15 @@
 """The command `python3 -m revc`, as a shell has it."""
+import io
 import os
 import subprocess
 import sys
 import tempfile
 import unittest
+from contextlib import redirect_stdout
 from pathlib import Path
 from typing import Tuple
+
+from revc.__main__ import main
 
 PACKAGE = Path(__file__).resolve().parent.parent
 EXAMPLES = PACKAGE.parent / "examples"
@@ -18,6 +22,13 @@ def alu(op: Bits[2], a: Bits[4], b: Bits[4]):
 
 
 class Command(unittest.TestCase):
+    cache: tempfile.TemporaryDirectory  # of bytecode, so that not each call compiles the package
+
+    @classmethod
+    def setUpClass(cls) -> None:
+        cls.cache = tempfile.TemporaryDirectory()
+        cls.addClassCleanup(cls.cache.cleanup)
+
     def setUp(self) -> None:
         folder = tempfile.TemporaryDirectory()
         self.addCleanup(folder.cleanup)
@@ -25,8 +36,9 @@ class Command(unittest.TestCase):
         (self.room / "alu.py").write_text(ALU)
 
     def run_in(self, words: str, text: str = "") -> Tuple[int, str, str]:
-        space = dict(os.environ, PYTHONPATH=str(PACKAGE), PYTHONDONTWRITEBYTECODE="1", EXAMPLES=str(EXAMPLES))
-        done = subprocess.run("%s -m revc %s" % (sys.executable, words), shell=True, cwd=self.folder, env=space,
+        space = dict(os.environ, PYTHONPATH=str(PACKAGE), PYTHONPYCACHEPREFIX=self.cache.name, EXAMPLES=str(EXAMPLES))
+        space.pop("PYTHONDONTWRITEBYTECODE", None)
+        done = subprocess.run(f"{sys.executable} -m revc {words}", shell=True, cwd=self.folder, env=space,
                               input=text.encode(), stdout=subprocess.PIPE, stderr=subprocess.PIPE)
         return done.returncode, done.stdout.decode(), done.stderr.decode()
 
@@ -58,7 +70,7 @@ class Command(unittest.TestCase):
         self.gives("check alu.revs", "claims 0")
         self.gives("run alu.py op=1 a=3 b=5", "out=14")
         self.gives("run alu.revs op=0 a=3 b=0x5", "out=8")
-        self.gives("run alu.real %s" % ("0" * 30), "0" * 30)
+        self.gives(f"run alu.real {'0' * 30}", "0" * 30)
         self.gives("draw alu.real -o alu.svg", "")
         self.gives("draw alu.py --columns 20", "<svg")
         self.gives("costs alu.py --plan lean --points 1 -o alu.svg", "Toffoli")
@@ -70,13 +82,17 @@ class Command(unittest.TestCase):
     def test_help(self) -> None:
         self.gives("--help", "compile")
         for each in "compile costs check run stat verify convert tidy draw phase text".split():
-            self.gives(each + " --help", "usage: revc " + each)
+            out = io.StringIO()
+            with self.assertRaises(SystemExit) as ended, redirect_stdout(out):
+                main([each, "--help"])
+            self.assertEqual(ended.exception.code, 0)
+            self.assertIn("usage: revc " + each, out.getvalue())
 
     def test_refusals(self) -> None:
         self.refuses("compile alu.revs", "alu.revs: No such file or directory")
         self.refuses("compile alu.py --plan best", "no plan `best`: auto, eager, pebble, lean")
         self.refuses("compile alu.py --plans lean", "it takes no `--plans`: --borrow, --format, --gates,")
-        self.refuses("compile alu.py -o alu.txt", "alu.txt: a circuit is written as .real or .qasm")
+        self.refuses("compile alu.py -o alu.txt", "alu.txt: a circuit is written as .real, .qasm or .qasm3")
         self.refuses("compile alu.py --lines many", "argument --lines: invalid int value: 'many'")
         self.refuses("compil alu.py", "invalid choice: 'compil'")
         self.refuses("compile alu.py:adder", "alu.py has no oracle `adder`: alu")

@@ -74,10 +74,10 @@ OPERATIONS: Dict[str, Tuple[Callable[[Any, Any], Any], Callable[[int, int, int],
     "<< by a value": (lambda a, b: a << b[:2] if len(b) > 1 else a << b, lambda a, b, n: a << (b & 3) & most(n)),
     ">> by a value": (lambda a, b: a >> b[:3] if len(b) > 2 else a >> b, lambda a, b, n: a >> (b & 7)),
     "rotate by a value": (lambda a, b: a.rotate_left(b[:1]), lambda a, b, n: left(a, b & 1, n)),
-    "reversed": (lambda a, b: a[::-1], lambda a, b, n: int(format(a, "0%db" % n)[::-1], 2)),
+    "reversed": (lambda a, b: a[::-1], lambda a, b, n: int(format(a, f"0{n}b")[::-1], 2)),
     "put": (lambda a, b: a.put(0, b[-1]), lambda a, b, n: a & ~1 | b >> n - 1),
     "Cat": (lambda a, b: Cat(b[0], a, b), lambda a, b, n: b & 1 | a << 1 | b << n + 1),
-    "split": (lambda a, b: Cat(*a.split(1)[::-1]), lambda a, b, n: int(format(a, "0%db" % n)[::-1], 2)),
+    "split": (lambda a, b: Cat(*a.split(1)[::-1]), lambda a, b, n: int(format(a, f"0{n}b")[::-1], 2)),
     "widen": (lambda a, b: widen(a, len(a) + 3), lambda a, b, n: a),
     "Switch": (lambda a, b: Switch(b[:1], {0: a, 1: b}), lambda a, b, n: b if b & 1 else a),
     "Switch with others": (lambda a, b: Switch(b, {1: a, None: b}), lambda a, b, n: a if b == 1 else b),
@@ -111,7 +111,7 @@ class Operations(unittest.TestCase):
             found = lot.compile().run_many([dict(a=a, b=b) for a, b in numbers])
             for (a, b), got in zip(numbers, found):
                 for name in names:
-                    self.assertEqual(got[name], OPERATIONS[name][1](a, b, n), "%s of %d and %d, %d bits" % (name, a, b, n))
+                    self.assertEqual(got[name], OPERATIONS[name][1](a, b, n), f"{name} of {a} and {b}, {n} bits")
 
     def test_on_all_inputs(self) -> None:
         for n in (1, 2, 3, 4):
@@ -166,13 +166,13 @@ class Ands(unittest.TestCase):
                                  ("<= k", n - 3), (">= k", 0), ("popcount", n - weight(n)), ("xor of all", 0), ("not", 0),
                                  ("rotate_left", 0), ("<<", 0), ("* 3", n), ("* 7", n + 1), ("* 10", n),
                                  ("divmod 8", 0), ("square", n * n - n)):
-                self.assertEqual(ands(OPERATIONS[name][0], n), wanted, "%s of %d bits" % (name, n))
+                self.assertEqual(ands(OPERATIONS[name][0], n), wanted, f"{name} of {n} bits")
 
     def test_of_products_and_quotients(self) -> None:
         for name, wanted in (("*", {8: 120, 16: 463, 32: 1609}), ("divmod 3", {8: 27, 16: 59, 32: 123}),
                              ("divmod 5", {8: 24, 16: 56, 32: 120}), ("divmod 10", {8: 20, 16: 52, 32: 116})):
             for n, count in wanted.items():
-                self.assertLessEqual(ands(OPERATIONS[name][0], n), count, "%s of %d bits" % (name, n))
+                self.assertLessEqual(ands(OPERATIONS[name][0], n), count, f"{name} of {n} bits")
 
     def test_of_tables(self) -> None:
         random = Random(9)

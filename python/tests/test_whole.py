@@ -10,7 +10,7 @@ from whole import FOLDER, WHOLE
 
 
 class Wholes(unittest.TestCase):
-    @unittest.skipUnless((3, 8) <= sys.version_info < (3, 14), "another Python may know fewer of the author's names")
+    @unittest.skipUnless((3, 9) <= sys.version_info < (3, 14), "another Python may know fewer of the author's names")
     def test_texts(self) -> None:
         for each in WHOLE:
             self.assertEqual((FOLDER / (each.oracle.name + ".revs")).read_text(), each.oracle.text, each.oracle.name)
@@ -21,7 +21,7 @@ class Wholes(unittest.TestCase):
             circuit, cases = each.oracle.compile(), each.cases()
             for form in ("real", "qasm"):
                 found = circuit.run_many([row for row, _ in cases], form)
-                self.assertEqual(found, [wanted for _, wanted in cases], "%s, %s" % (each.oracle.name, form))
+                self.assertEqual(found, [wanted for _, wanted in cases], f"{each.oracle.name}, {form}")
 
     def test_key_search(self) -> None:
         right = int.from_bytes(bytes(range(16)), "little")
