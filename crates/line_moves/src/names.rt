@@ -14,11 +14,11 @@ impl Writing {
     // The nodes that are written out in factors, each list with a line: toggled onto its lines, a
     // node takes the place of its bits in that factor, and in no other one.
     pub(crate) fn names(&mut self) -> Vec<(Part, u32)> {
-        if !self.is_written {
-            return Vec::new(self.moves.room.alloc);
-        }
-        if self.products.len() > MOST_PRODUCTS {
+        if self.is_written && self.products.len() > MOST_PRODUCTS {
             self.moves.room.give_up();
+        }
+        if !self.is_written || self.moves.is_stopped() {
+            return Vec::new(self.moves.room.alloc);
         }
         let mut parities = Parities::of(self.moves.room.alloc, &self.products, &self.numbers);
         parities.put_all();

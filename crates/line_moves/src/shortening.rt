@@ -1,9 +1,10 @@
 // Copies that moves can do without.
 use crate::moves::{Gathering, Gatherings, Move, Moves};
-use plan_tools::{NOWHERE, Table, Work, list_at, number};
+use plan_tools::{NOWHERE, Table, Work, list_at};
+use std::alloc::Global;
 
 /// How many copies to one line are looked through for one that stands there again.
-const MOST_OPEN: u32 = 256;
+const MOST_OPEN: usize = 256;
 
 /// How often moves are gone through, and how many of them in all.
 const MOST_PASSES: u32 = 16;
@@ -32,7 +33,7 @@ pub fn shorten(moves: &mut Moves, lines: u32) {
 
 // One pass over moves. Those that name a line which is not among so many stay.
 fn passed(moves: &mut Moves, lines: u32) -> Vec<Move> {
-    let mut pass = Pass::new(&mut moves.room, &moves.list, lines);
+    let mut pass = Pass::new(moves.room.alloc, &moves.list, lines);
     let mut place: u32 = 0;
     for step in &moves.list {
         match *step {
@@ -45,7 +46,11 @@ fn passed(moves: &mut Moves, lines: u32) -> Vec<Move> {
         }
         place = place.saturating_add(1);
     }
-    pass.edited(&mut moves.room)
+    let rest = pass.edited();
+    if let Err(stop) = pass.work.finish(()) {
+        moves.room.stop(stop);
+    }
+    rest
 }
 
 // What becomes of a move: it stays, goes, or gets a copy beside it.
@@ -114,68 +119,60 @@ impl LastTwo {
     }
 }
 
-// What a pass knows of a line.
+// What a pass knows of a line: the moves that read it, and those that change it.
 #[derive(Clone, Copy)]
 struct Line {
-    /// The last copy to it that may meet its like, and how many there are.
-    open: u32,
-    count: u32,
     reads: LastTwo,
     changes: LastTwo,
 }
 
 impl Line {
     const NONE: Line = Line {
-        open: NOWHERE,
-        count: 0,
         reads: LastTwo::NONE,
         changes: LastTwo::NONE,
     };
 }
 
-// A copy from a line that may meet its like, and the one before it to the same line.
+// A copy from a line, at a place, that may meet its like.
 #[derive(Clone, Copy)]
 struct Open {
     from: u32,
-    before: u32,
-}
-
-impl Open {
-    const NONE: Open = Open {
-        from: NOWHERE,
-        before: NOWHERE,
-    };
+    place: u32,
 }
 
 #[derive(Drop)]
 struct Pass<'m> {
     list: &'m [Move],
     edits: Table<Edit>,
-    opens: Table<Open>,
+    /// Of each line the copies to it that may meet their like.
+    opens: Vec<Vec<Open>>,
     lines: Table<Line>,
+    work: Work,
 }
 
 impl<'m> Pass<'m> {
-    fn new(room: &mut Work, list: &'m [Move], lines: u32) -> Pass<'m> {
+    fn new(alloc: Global, list: &'m [Move], lines: u32) -> Pass<'m> {
+        let mut work = Work::new(alloc, 0);
         Pass {
             list,
-            edits: Table::new(room, list.len(), Edit::Stay),
-            opens: Table::new(room, list.len(), Open::NONE),
-            lines: Table::new(room, lines as usize, Line::NONE),
+            edits: Table::new(&mut work, list.len(), Edit::Stay),
+            opens: work.lists(lines as usize),
+            lines: Table::new(&mut work, lines as usize, Line::NONE),
+            work,
         }
     }
 
     // The moves that are left.
-    fn edited(&self, room: &mut Work) -> Vec<Move> {
-        let mut rest = Vec::new(room.alloc);
+    fn edited(&mut self) -> Vec<Move> {
+        let mut rest = Vec::new(self.work.alloc);
         let mut place: u32 = 0;
         for step in self.list {
             let edit = self.edits.get(place);
             if !matches!(edit, Edit::Go) {
-                room.push(&mut rest, *step);
+                self.work.push(&mut rest, *step);
             }
             if let Edit::With { from, to } = edit {
-                room.push(&mut rest, Move::Copy { from, to });
+                self.work.push(&mut rest, Move::Copy { from, to });
             }
             place = place.saturating_add(1);
         }
@@ -208,32 +205,17 @@ impl<'m> Pass<'m> {
         true
     }
 
-    // The place of the last copy of `from` to `to` that may meet its like. It is looked at once.
+    // The place of the copy of `from` to `to` that may meet its like. It is looked at once.
     fn take_open(&mut self, from: u32, to: u32) -> Option<u32> {
-        let mut line = self.lines.get(to);
-        let (mut place, mut behind) = (line.open, NOWHERE);
-        for _ in 0..line.count {
-            let open = self.opens.get(place);
-            if open.from == from {
-                if behind == NOWHERE {
-                    line.open = open.before;
-                } else {
-                    self.relink(behind, open.before);
-                }
-                line.count = line.count.saturating_sub(1);
-                self.lines.set(to, line);
-                return Some(place);
-            }
-            behind = place;
-            place = open.before;
+        let to = to as usize;
+        if to >= self.opens.len() {
+            return None;
         }
-        None
-    }
-
-    // The copy at a place has another one before it.
-    fn relink(&mut self, place: u32, before: u32) {
-        let from = self.opens.get(place).from;
-        self.opens.set(place, Open { from, before });
+        let k = first_from(&self.opens[to], from);
+        if k >= self.opens[to].len() {
+            return None;
+        }
+        Some(self.opens[to].swap_remove(k).place)
     }
 
     // What stands behind the place of a copy of `from` to `to`.
@@ -273,14 +255,13 @@ impl<'m> Pass<'m> {
     // A copy that stays, so far.
     fn keep(&mut self, place: u32, from: u32, to: u32) {
         self.note(place, from, to);
-        let mut line = self.lines.get(to);
-        if line.count >= MOST_OPEN {
-            (line.open, line.count) = (NOWHERE, 0);
+        let to = to as usize;
+        if to < self.opens.len() {
+            if self.opens[to].len() >= MOST_OPEN {
+                self.opens[to].clear();
+            }
+            self.work.push(&mut self.opens[to], Open { from, place });
         }
-        let before = line.open;
-        self.opens.set(place, Open { from, before });
-        (line.open, line.count) = (place, line.count + 1);
-        self.lines.set(to, line);
     }
 
     fn note(&mut self, place: u32, from: u32, to: u32) {
@@ -314,4 +295,16 @@ impl<'m> Pass<'m> {
         now.changes = now.changes.and(place);
         self.lines.set(line, now);
     }
+}
+
+// Where the first copy from a line stands; behind all where there is none.
+fn first_from(opens: &[Open], from: u32) -> usize {
+    let mut k: usize = 0;
+    for open in opens {
+        if open.from == from {
+            return k;
+        }
+        k = k.saturating_add(1);
+    }
+    k
 }
