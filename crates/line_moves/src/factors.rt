@@ -1,9 +1,8 @@
 // Where the factors of products are gathered.
-use crate::lines::{NOWHERE, are_among, common, pass_copy, without};
+use crate::lines::{Factor, Part, Product, are_among, common};
 use crate::moves::{Gathering, Gatherings};
-use revc_base::Memory;
-use span_rows::Stop;
-use std::alloc::Global;
+use crate::writing::Writing;
+use plan_tools::{NOWHERE, list_at, put};
 
 /// The most copies around the products of one toggle.
 const MOST_COPIES: usize = 100;
@@ -11,257 +10,274 @@ const MOST_COPIES: usize = 100;
 /// Of how many lines a factor may be the sum if what was gathered before is to choose among them.
 const MOST_COMPARED: usize = 64;
 
-/// The lines of both factors of a product, rising.
-#[derive(Drop)]
-pub struct FactorLines {
-    pub first: Vec<u32>,
-    pub second: Vec<u32>,
-    /// The nodes without products that are written out in each factor: their bits stand on its
-    /// lines in their places.
-    pub first_written: Vec<u32>,
-    pub second_written: Vec<u32>,
+/// How many products of one toggle are compared with each other.
+const MOST_APART: usize = 256;
+
+// The lines of a factor, and the one of them on which they are gathered.
+#[derive(Clone, Copy)]
+struct Gathered {
+    lines: Part,
+    on: u32,
 }
 
-/// Of each line the lines that were gathered on it the last time.
-#[derive(Drop)]
-pub struct Habits {
-    gathered: Vec<Vec<u32>>,
+impl Gathered {
+    // The factor as it is behind the copies that gather it.
+    fn alone(self) -> Gathered {
+        Gathered {
+            lines: Part::NONE,
+            on: self.on,
+        }
+    }
 }
 
-/// How a product is gathered by copies alone: the copies, and the lines that hold the factors then.
-#[derive(Drop)]
-pub struct Held {
-    pub copies: Vec<(u32, u32)>,
-    pub first: u32,
-    pub second: u32,
+// Both factors of a product.
+#[derive(Clone, Copy)]
+struct Both {
+    first: Gathered,
+    second: Gathered,
 }
 
-impl Held {
-    /// Whether no other product than the one at place `k` has the lines that hold the factors.
-    pub fn is_apart(&self, products: &[FactorLines], k: usize) -> bool {
-        for (place, other) in products.iter().enumerate() {
-            if place != k && (other.has(self.first) || other.has(self.second)) {
+impl Writing {
+    // Gathers the only product by copies, which may stay on the lines `own`.
+    pub(crate) fn gather_one(&mut self, own: &[u32]) -> Vec<Gatherings> {
+        let mut gatherings = Vec::new(self.moves.room.alloc);
+        let both = self.choose(0, own);
+        self.hold(0, both);
+        self.push_gatherings(&mut gatherings, both.first.alone(), both.second.alone());
+        gatherings
+    }
+
+    // Gathers any number of products: those that have lines of their own by copies, and the others
+    // for the moment of their flips.
+    pub(crate) fn gather_all(&mut self) -> Vec<Gatherings> {
+        let mut gatherings = Vec::new(self.moves.room.alloc);
+        if self.products.len() <= MOST_APART {
+            self.gather_apart();
+        }
+        self.untangle();
+        for k in 0..self.products.len() {
+            let both = self.choose(k, &[]);
+            self.push_gatherings(&mut gatherings, both.first, both.second);
+        }
+        gatherings
+    }
+
+    // Appends where both factors of a product are gathered. Where they are not tangled, no line of
+    // the second one is that on which the first one is gathered.
+    fn push_gatherings(&mut self, all: &mut Vec<Gatherings>, first: Gathered, second: Gathered) {
+        let first = self.gathering(first);
+        let second = self.gathering(second);
+        self.moves.room.push(all, Gatherings { first, second });
+    }
+
+    fn gathering(&mut self, factor: Gathered) -> Gathering {
+        let mut others = Vec::new(self.moves.room.alloc);
+        for line in factor.lines.of(&self.numbers) {
+            if *line != factor.on {
+                self.moves.room.push(&mut others, *line);
+            }
+        }
+        Gathering {
+            on: factor.on,
+            others,
+        }
+    }
+
+    // Gathers each product by copies whose factors come onto lines that no other product has.
+    fn gather_apart(&mut self) {
+        for k in 0..self.products.len() {
+            let both = self.choose(k, &[]);
+            if self.is_apart(k, both) {
+                self.hold(k, both);
+            }
+        }
+    }
+
+    // Whether no other product has the lines on which this one is gathered.
+    fn is_apart(&self, k: usize, both: Both) -> bool {
+        for (place, other) in self.products.iter().enumerate() {
+            if place != k && (self.meets(other.first, both) || self.meets(other.second, both)) {
                 return false;
             }
         }
         true
     }
 
-    /// The lines that hold the factors, as where these are gathered behind the copies.
-    pub fn gatherings(&self, alloc: Global) -> Result<Vec<Gatherings>, Memory> {
-        let mut gatherings = Vec::new(alloc);
-        gatherings.push(Gatherings {
-            first: Gathering {
-                on: self.first,
-                others: Vec::new(alloc),
-            },
-            second: Gathering {
-                on: self.second,
-                others: Vec::new(alloc),
-            },
-        })?;
-        Ok(gatherings)
+    fn meets(&self, factor: Factor, both: Both) -> bool {
+        let lines = factor.lines.of(&self.numbers);
+        lines.contains(&both.first.on) || lines.contains(&both.second.on)
     }
-}
 
-impl FactorLines {
-    /// These lines, on which no node is written out.
-    pub fn new(alloc: Global, first: Vec<u32>, second: Vec<u32>) -> FactorLines {
-        FactorLines {
-            first,
-            second,
-            first_written: Vec::new(alloc),
-            second_written: Vec::new(alloc),
+    // Gathers both factors of a product by copies; its lines become those behind the copies. Where
+    // one's lines are among the other's, the lesser one is gathered first, and added to the rest of
+    // the other.
+    fn hold(&mut self, k: usize, both: Both) {
+        let Both { first, second } = both;
+        if self.is_within(first, second) || !self.is_within(second, first) {
+            self.gather_both(first, second);
+        } else {
+            self.gather_both(second, first);
+        }
+        let (first, second) = (self.part(&[first.on]), self.part(&[second.on]));
+        self.set_lines(k, first, second);
+    }
+
+    // Gathers two factors, and where the lines of the first are among those of the second, adds it
+    // to the rest of that.
+    fn gather_both(&mut self, first: Gathered, second: Gathered) {
+        self.gather(first, Part::NONE);
+        if self.is_within(first, second) {
+            self.gather(second, first.lines);
+            let copy = (first.on, second.on);
+            self.moves.room.push(&mut self.copies, copy);
+        } else {
+            self.gather(second, Part::NONE);
         }
     }
 
-    /// The lines of both factors become those behind the copies that gather them.
-    pub fn pass(&mut self, alloc: Global, held: &Held) -> Result<(), Memory> {
-        self.first = Vec::from_slice(alloc, &[held.first])?;
-        self.second = Vec::from_slice(alloc, &[held.second])?;
-        Ok(())
-    }
-
-    fn has(&self, line: u32) -> bool {
-        self.first.contains(&line) || self.second.contains(&line)
-    }
-
-    /// Whether a node is written out in it.
-    pub fn is_written(&self) -> bool {
-        !self.first_written.is_empty() || !self.second_written.is_empty()
-    }
-}
-
-impl Habits {
-    /// None yet, of so many lines.
-    pub fn new(alloc: Global, lines: u32) -> Result<Habits, Memory> {
-        let mut gathered = Vec::new(alloc);
-        for _ in 0..lines {
-            gathered.push(Vec::new(alloc))?;
+    // Gathers the lines of a factor but for those of `others`.
+    fn gather(&mut self, factor: Gathered, others: Part) {
+        let others = others.of(&self.numbers);
+        for line in factor.lines.of(&self.numbers) {
+            if *line != factor.on && others.binary_search(line).is_err() {
+                self.moves.room.push(&mut self.copies, (*line, factor.on));
+            }
         }
-        Ok(Habits { gathered })
     }
 
-    // Of the lines of a factor that the other one has not, or of all where there are none, the
-    // first that is among `own`; else that on which the most of its lines were gathered the last
-    // time, so that equal CX gates meet.
-    fn choice(&self, lines: &[u32], others: &[u32], own: &[u32]) -> u32 {
+    fn is_within(&self, some: Gathered, others: Gathered) -> bool {
+        are_among(some.lines.of(&self.numbers), others.lines.of(&self.numbers))
+    }
+
+    // The lines on which the factors of the product at a place are gathered.
+    fn choose(&mut self, k: usize, own: &[u32]) -> Both {
+        let (first, second) = self.lines_of(k);
+        let both = Both {
+            first: self.chosen(first, second, own),
+            second: self.chosen(second, first, own),
+        };
+        self.note(both.first);
+        self.note(both.second);
+        both
+    }
+
+    // A factor on the line on which it is gathered. Of its lines that the other one has not, or of
+    // all where there are none, that is the first that is among `own`; else that on which the most
+    // of its lines were gathered the last time, so that equal CX gates meet.
+    fn chosen(&self, factor: Part, other: Part, own: &[u32]) -> Gathered {
+        let (lines, others) = (factor.of(&self.numbers), other.of(&self.numbers));
         let is_any = are_among(lines, others);
-        let mut best = None;
+        let (mut most, mut on) = (0, NOWHERE);
         for line in lines {
             if is_any || others.binary_search(line).is_err() {
                 if own.contains(line) {
-                    return *line;
+                    on = *line;
+                    break;
                 }
-                let alike = match self.gathered.get(*line as usize) {
-                    Some(gathered) if lines.len() <= MOST_COMPARED => common(gathered, lines),
-                    _ => 0,
-                };
-                best = best.max(Some((alike, *line)));
+                let alike = self.alike(*line, lines);
+                if alike >= most {
+                    (most, on) = (alike, *line);
+                }
             }
         }
-        match best {
-            Some((_, line)) => line,
-            None => NOWHERE,
+        Gathered { lines: factor, on }
+    }
+
+    // How many of some lines were gathered on this one the last time.
+    fn alike(&self, line: u32, lines: &[u32]) -> usize {
+        if lines.len() > MOST_COMPARED {
+            return 0;
+        }
+        common(list_at(&self.habits, line), lines)
+    }
+
+    fn note(&mut self, factor: Gathered) {
+        let lines = self.moves.room.copy(factor.lines.of(&self.numbers));
+        put(&mut self.habits, factor.on, lines);
+    }
+
+    // Puts copies around the products after which no first factor's lines are among the second
+    // one's.
+    fn untangle(&mut self) {
+        for turn in 0..MOST_COPIES {
+            let Some((from, to)) = self.tangle(turn) else {
+                return;
+            };
+            self.moves.room.push(&mut self.copies, (from, to));
+            self.pass_copy(from, to);
+        }
+        self.moves.room.give_up();
+    }
+
+    // A line of a first factor whose lines are among the second one's, and a line that the second
+    // one has alone. Which ones goes by the turn, so that copies do not go round in a circle.
+    fn tangle(&self, turn: usize) -> Option<(u32, u32)> {
+        for product in &self.products {
+            let first = product.first.lines.of(&self.numbers);
+            let second = product.second.lines.of(&self.numbers);
+            if are_among(first, second) {
+                return Some((one_of(first, &[], turn), one_of(second, first, turn / 2)));
+            }
+        }
+        None
+    }
+
+    // The lines of all factors become those that sum to the same behind a copy.
+    fn pass_copy(&mut self, from: u32, to: u32) {
+        for k in 0..self.products.len() {
+            let (first, second) = self.lines_of(k);
+            let first = self.passed(first, from, to);
+            let second = self.passed(second, from, to);
+            self.set_lines(k, first, second);
         }
     }
 
-    fn note(&mut self, alloc: Global, line: u32, all: &[u32]) -> Result<(), Memory> {
-        let place = line as usize;
-        if place < self.gathered.len() {
-            self.gathered[place] = Vec::from_slice(alloc, all)?;
+    fn passed(&mut self, part: Part, from: u32, to: u32) -> Part {
+        let lines = part.of(&self.numbers);
+        if !lines.contains(&to) {
+            return part;
         }
-        Ok(())
-    }
-
-    // The lines on which both factors are gathered.
-    fn choose(
-        &mut self,
-        alloc: Global,
-        lines: &FactorLines,
-        own: &[u32],
-    ) -> Result<(u32, u32), Memory> {
-        let first = self.choice(&lines.first, &lines.second, own);
-        let second = self.choice(&lines.second, &lines.first, own);
-        self.note(alloc, first, &lines.first)?;
-        self.note(alloc, second, &lines.second)?;
-        Ok((first, second))
-    }
-
-    /// Gathers both factors by copies. Where one's lines are among the other's, the lesser one is
-    /// gathered first, and added to the rest of the other. What is gathered on lines of `own` may
-    /// stay.
-    pub fn held(
-        &mut self,
-        alloc: Global,
-        lines: &FactorLines,
-        own: &[u32],
-    ) -> Result<Held, Memory> {
-        let (first, second) = self.choose(alloc, lines, own)?;
-        let (a, b) = (lines.first.as_slice(), lines.second.as_slice());
-        let mut copies = Vec::new(alloc);
-        if are_among(a, b) || !are_among(b, a) {
-            gather_both(&mut copies, a, first, b, second)?;
-        } else {
-            gather_both(&mut copies, b, second, a, first)?;
+        let mut lines = self.moves.room.copy(lines);
+        match lines.binary_search(&from) {
+            Ok(place) => {
+                lines.remove(place);
+            }
+            Err(place) => {
+                self.moves.room.note(lines.insert(place, from));
+            }
         }
-        Ok(Held {
-            copies,
-            first,
-            second,
-        })
+        self.part(&lines)
     }
 
-    /// Gathers both factors for the moment of the flip. Where they are not tangled, no line of the
-    /// second one is that on which the first one is gathered.
-    pub fn gatherings(&mut self, alloc: Global, lines: &FactorLines) -> Result<Gatherings, Memory> {
-        let (first, second) = self.choose(alloc, lines, &[])?;
-        Ok(Gatherings {
-            first: gathering(alloc, &lines.first, first)?,
-            second: gathering(alloc, &lines.second, second)?,
-        })
-    }
-}
-
-// Appends the copies of the lines that are not among `others` to one of them.
-fn gather(
-    copies: &mut Vec<(u32, u32)>,
-    lines: &[u32],
-    others: &[u32],
-    on: u32,
-) -> Result<(), Memory> {
-    for line in lines {
-        if *line != on && others.binary_search(line).is_err() {
-            copies.push((*line, on))?;
+    fn lines_of(&self, k: usize) -> (Part, Part) {
+        match self.products.get(k) {
+            Some(product) => (product.first.lines, product.second.lines),
+            None => (Part::NONE, Part::NONE),
         }
     }
-    Ok(())
-}
 
-// Appends the copies that gather two factors. Where the lines `a` are among the lines `b`, the
-// first factor is added to the rest of the second.
-fn gather_both(
-    copies: &mut Vec<(u32, u32)>,
-    a: &[u32],
-    a_on: u32,
-    b: &[u32],
-    b_on: u32,
-) -> Result<(), Memory> {
-    gather(copies, a, &[], a_on)?;
-    if !are_among(a, b) {
-        return gather(copies, b, &[], b_on);
-    }
-    gather(copies, b, a, b_on)?;
-    Ok(copies.push((a_on, b_on))?)
-}
-
-fn gathering(alloc: Global, lines: &[u32], on: u32) -> Result<Gathering, Memory> {
-    let others = without(alloc, lines, &[on])?;
-    Ok(Gathering { on, others })
-}
-
-/// Appends copies around the products of a toggle after which no first factor's lines are among the
-/// second one's; the products' lines become those behind the copies.
-pub fn untangle(
-    alloc: Global,
-    products: &mut [FactorLines],
-    copies: &mut Vec<(u32, u32)>,
-) -> Result<(), Stop> {
-    for turn in 0..MOST_COPIES {
-        let Some((from, to)) = tangle(alloc, products, turn)? else {
-            return Ok(());
-        };
-        copies.push((from, to))?;
-        for product in products.iter_mut() {
-            pass_copy(&mut product.first, from, to)?;
-            pass_copy(&mut product.second, from, to)?;
+    fn set_lines(&mut self, k: usize, first: Part, second: Part) {
+        if k < self.products.len() {
+            self.products[k].first.lines = first;
+            self.products[k].second.lines = second;
         }
     }
-    Err(Stop::Lost)
 }
 
-// A line of a first factor whose lines are among the second one's, and a line that the second one
-// has alone. Which ones goes by the turn, so that copies do not go round in a circle.
-fn tangle(
-    alloc: Global,
-    products: &[FactorLines],
-    turn: usize,
-) -> Result<Option<(u32, u32)>, Memory> {
-    for product in products {
-        if are_among(&product.first, &product.second) {
-            let rest = without(alloc, &product.second, &product.first)?;
-            let from = one_of(&product.first, turn);
-            return Ok(Some((from, one_of(&rest, turn / 2))));
-        }
-    }
-    Ok(None)
-}
-
-// One of some lines, by the turn.
-fn one_of(lines: &[u32], turn: usize) -> u32 {
-    let count = lines.len();
+// One of the lines that are not among `others`, by the turn.
+fn one_of(lines: &[u32], others: &[u32], turn: usize) -> u32 {
+    let count = lines.len().saturating_sub(common(lines, others));
     if count == 0 {
         return NOWHERE;
     }
-    lines[turn % count]
+    let mut left = turn % count;
+    for line in lines {
+        if others.binary_search(line).is_err() {
+            if left == 0 {
+                return *line;
+            }
+            left -= 1;
+        }
+    }
+    NOWHERE
 }

@@ -1,20 +1,53 @@
-// Sets of lines, as rising lists.
-use revc_base::Memory;
-use std::alloc::Global;
+// Lists of lines.
 
-/// No line: what stands where there is no line to be chosen. No circuit has it, so moves that name
-/// it are refused.
-pub const NOWHERE: u32 = u32::MAX;
+/// A list of numbers among others, one behind the other.
+#[derive(Clone, Copy)]
+pub struct Part {
+    pub start: usize,
+    pub end: usize,
+}
 
-/// The lines of `some` that are not among `others`; both rise.
-pub fn without(alloc: Global, some: &[u32], others: &[u32]) -> Result<Vec<u32>, Memory> {
-    let mut rest = Vec::new(alloc);
-    for line in some {
-        if others.binary_search(line).is_err() {
-            rest.push(*line)?;
+impl Part {
+    /// No numbers.
+    pub const NONE: Part = Part { start: 0, end: 0 };
+
+    /// The list, where `all` are the numbers of all lists.
+    pub fn of(self, all: &[u32]) -> &[u32] {
+        if self.start <= self.end && self.end <= all.len() {
+            &all[self.start..self.end]
+        } else {
+            &all[..0]
         }
     }
-    Ok(rest)
+
+    /// Whether there is no number in it.
+    pub fn is_empty(self) -> bool {
+        self.start >= self.end
+    }
+}
+
+/// A factor of a product.
+#[derive(Clone, Copy)]
+pub struct Factor {
+    // The lines of which it is the sum, rising.
+    pub(crate) lines: Part,
+    // The nodes without products that are written out in it: their bits stand on its lines in their
+    // places.
+    pub(crate) written: Part,
+}
+
+/// A product of two factors.
+#[derive(Clone, Copy)]
+pub struct Product {
+    pub first: Factor,
+    pub second: Factor,
+}
+
+impl Product {
+    /// Whether a node is written out in it.
+    pub fn is_written(&self) -> bool {
+        !self.first.written.is_empty() || !self.second.written.is_empty()
+    }
 }
 
 /// Whether all lines of `some` are among `others`, which rise.
@@ -31,18 +64,4 @@ pub fn common(some: &[u32], others: &[u32]) -> usize {
         }
     }
     count
-}
-
-/// Makes of lines those that sum to the same behind a copy of `from` to `to`.
-pub fn pass_copy(lines: &mut Vec<u32>, from: u32, to: u32) -> Result<(), Memory> {
-    if !lines.contains(&to) {
-        return Ok(());
-    }
-    match lines.binary_search(&from) {
-        Ok(place) => {
-            lines.remove(place);
-            Ok(())
-        }
-        Err(place) => Ok(lines.insert(place, from)?),
-    }
 }

@@ -1,148 +1,105 @@
 // Moves in the making.
-use crate::factors::{FactorLines, Habits, untangle};
-use crate::moves::{Gatherings, Moves};
-use crate::names::names_in;
-use revc_base::Memory;
-use span_rows::Stop;
+use crate::lines::{Factor, Part, Product};
+use crate::moves::Moves;
 use std::alloc::Global;
 
-/// How many products of one toggle are compared with each other.
-const MOST_APART: usize = 256;
-
-/// Moves in the making, with the lines on which factors were gathered so far.
+/// Moves in the making: toggles of nodes, between copies that gather the factors of their products.
+/// No call fails: the moves keep the first refusal.
 #[derive(Drop)]
 pub struct Writing {
-    alloc: Global,
-    habits: Habits,
     /// The moves so far.
     pub moves: Moves,
+    /// The products of the next toggle, and the lists of their factors.
+    pub(crate) products: Vec<Product>,
+    pub(crate) numbers: Vec<u32>,
+    /// The copies around the next toggle, each from a line to another.
+    pub(crate) copies: Vec<(u32, u32)>,
+    /// Of each line the lines that were gathered on it the last time.
+    pub(crate) habits: Vec<Vec<u32>>,
 }
 
 impl Writing {
     /// No moves yet, on so many lines.
-    pub fn new(alloc: Global, lines: u32) -> Result<Writing, Stop> {
-        Ok(Writing {
-            alloc,
-            habits: Habits::new(alloc, lines)?,
-            moves: Moves::none(alloc),
-        })
+    pub fn new(alloc: Global, lines: u32) -> Writing {
+        let mut moves = Moves::none(alloc);
+        let habits = moves.room.lists(lines as usize);
+        Writing {
+            moves,
+            products: Vec::new(alloc),
+            numbers: Vec::new(alloc),
+            copies: Vec::new(alloc),
+            habits,
+        }
+    }
+
+    /// A factor of a product of the next toggle: the sum of these lines, which rise. Nodes without
+    /// products that are written out in it have their bits on its lines.
+    pub fn factor(&mut self, lines: &[u32], written: &[u32]) -> Factor {
+        Factor {
+            lines: self.part(lines),
+            written: self.part(written),
+        }
+    }
+
+    // A list of these numbers.
+    pub(crate) fn part(&mut self, numbers: &[u32]) -> Part {
+        let start = self.numbers.len();
+        self.moves.room.append(&mut self.numbers, numbers);
+        self.part_from(start)
+    }
+
+    // The numbers from a place on.
+    pub(crate) fn part_from(&self, start: usize) -> Part {
+        Part {
+            start,
+            end: self.numbers.len(),
+        }
+    }
+
+    /// Appends a product to those of the next toggle.
+    pub fn product(&mut self, first: Factor, second: Factor) {
+        let product = Product { first, second };
+        self.moves.room.push(&mut self.products, product);
     }
 
     /// Toggles a node of these products onto a line. A single product is gathered by copies, which
     /// stay on the lines `own`.
-    pub fn toggle(
-        &mut self,
-        node: u32,
-        onto: u32,
-        mut products: Vec<FactorLines>,
-        own: &[u32],
-    ) -> Result<(), Stop> {
-        let mut copies = Vec::new(self.alloc);
-        let gatherings = if products.len() == 1 {
-            self.gather_one(&mut products, own, &mut copies)?
+    pub fn toggle(&mut self, node: u32, onto: u32, own: &[u32]) {
+        let gatherings = if self.products.len() == 1 {
+            self.gather_one(own)
         } else {
-            self.gather_all(&mut products, &mut copies)?
+            self.gather_all()
         };
-        let names = names_in(self.alloc, &products)?;
-        copy_all(&mut self.moves, &copies)?;
-        self.toggle_between(node, onto, gatherings, &names)?;
-        copy_back(&mut self.moves, &copies, own)
-    }
-
-    // Gathers one product by copies.
-    fn gather_one(
-        &mut self,
-        products: &mut [FactorLines],
-        own: &[u32],
-        copies: &mut Vec<(u32, u32)>,
-    ) -> Result<Vec<Gatherings>, Stop> {
-        let Some(product) = products.get_mut(0) else {
-            return Err(Stop::Lost);
-        };
-        let mut held = self.habits.held(self.alloc, product, own)?;
-        product.pass(self.alloc, &held)?;
-        copies.append(&mut held.copies)?;
-        held.gatherings(self.alloc).map_err(Stop::from)
-    }
-
-    // Gathers any number of products: those that have lines of their own by copies, and the others
-    // for the moment of their flips.
-    fn gather_all(
-        &mut self,
-        products: &mut [FactorLines],
-        copies: &mut Vec<(u32, u32)>,
-    ) -> Result<Vec<Gatherings>, Stop> {
-        self.gather_apart(products, copies)?;
-        untangle(self.alloc, products, copies)?;
-        self.gatherings(products).map_err(Stop::from)
-    }
-
-    // A toggle, for the moment of which nodes take the places of their bits on lines of factors.
-    fn toggle_between(
-        &mut self,
-        node: u32,
-        onto: u32,
-        gatherings: Vec<Gatherings>,
-        names: &[(u32, u32)],
-    ) -> Result<(), Stop> {
-        self.name(names)?;
-        self.moves.toggle(node, onto, gatherings)?;
-        self.name(names)
+        let names = self.names();
+        self.copy_all();
+        self.name_all(&names);
+        self.moves.toggle(node, onto, gatherings);
+        self.name_all(&names);
+        self.copy_back(own);
+        self.products.clear();
+        self.numbers.clear();
+        self.copies.clear();
     }
 
     // Toggles nodes without products onto lines.
-    fn name(&mut self, names: &[(u32, u32)]) -> Result<(), Stop> {
+    fn name_all(&mut self, names: &[(u32, u32)]) {
         for (node, line) in names {
-            self.moves.toggle(*node, *line, Vec::new(self.alloc))?;
+            self.moves.name(*node, *line);
         }
-        Ok(())
     }
 
-    fn gatherings(&mut self, products: &[FactorLines]) -> Result<Vec<Gatherings>, Memory> {
-        let mut gatherings = Vec::new(self.alloc);
-        for product in products {
-            gatherings.push(self.habits.gatherings(self.alloc, product)?)?;
+    fn copy_all(&mut self) {
+        for (from, to) in &self.copies {
+            self.moves.copy(*from, *to);
         }
-        Ok(gatherings)
     }
 
-    // Gathers each product by copies whose factors come onto lines that no other product has; the
-    // products' lines become those behind the copies.
-    fn gather_apart(
-        &mut self,
-        products: &mut [FactorLines],
-        copies: &mut Vec<(u32, u32)>,
-    ) -> Result<(), Memory> {
-        if products.len() > MOST_APART {
-            return Ok(());
-        }
-        for k in 0..products.len() {
-            let Some(product) = products.get(k) else {
-                break;
-            };
-            let mut held = self.habits.held(self.alloc, product, &[])?;
-            if held.is_apart(products, k) {
-                products[k].pass(self.alloc, &held)?;
-                copies.append(&mut held.copies)?;
+    // The same backward, but for the copies to the lines `own`.
+    fn copy_back(&mut self, own: &[u32]) {
+        for (from, to) in self.copies.iter().rev() {
+            if !own.contains(to) {
+                self.moves.copy(*from, *to);
             }
         }
-        Ok(())
     }
-}
-
-fn copy_all(moves: &mut Moves, copies: &[(u32, u32)]) -> Result<(), Stop> {
-    for (from, to) in copies {
-        moves.copy(*from, *to)?;
-    }
-    Ok(())
-}
-
-// The same backward, but for the copies to the lines `own`.
-fn copy_back(moves: &mut Moves, copies: &[(u32, u32)], own: &[u32]) -> Result<(), Stop> {
-    for (from, to) in copies.iter().rev() {
-        if !own.contains(to) {
-            moves.copy(*from, *to)?;
-        }
-    }
-    Ok(())
 }
