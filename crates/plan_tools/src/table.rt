@@ -22,6 +22,14 @@ impl<T: Copy> Table<T> {
         Table { items, none }
     }
 
+    /// The same table once more.
+    pub fn copy(&self, work: &mut Work) -> Table<T> {
+        Table {
+            items: work.copy(&self.items),
+            none: self.none,
+        }
+    }
+
     /// The items, in their order.
     pub fn items(&self) -> &[T] {
         &self.items

@@ -1,5 +1,4 @@
 // The graph that is swept: the nodes of a graph of sums in an order of their own.
-use span_rows::{Stop, at};
 
 /// A product of two sums of symbols.
 #[derive(Drop)]
@@ -68,8 +67,8 @@ pub struct SpanGraph {
 
 impl SpanGraph {
     /// The node at a place of the order.
-    pub fn node(&self, place: u32) -> Result<&Node, Stop> {
-        at(&self.nodes, place)
+    pub fn node(&self, place: u32) -> Option<&Node> {
+        self.nodes.get(place as usize)
     }
 
     /// The symbol of the node at a place of the order.

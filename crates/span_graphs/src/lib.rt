@@ -1,5 +1,5 @@
-//! The graph whose nodes a span plan toggles, and the schedules of its toggles. It borrows nothing
-//! from the graph of sums that it comes from.
+//! The graph whose nodes a span plan toggles, and the schedules by which it toggles them. It borrows
+//! nothing from the graph of sums that it comes from.
 #![tactic(auto)]
 
 mod graph;
@@ -7,4 +7,4 @@ mod schedules;
 mod thinning;
 
 pub use graph::{Node, Output, Product, SpanGraph};
-pub use schedules::{Range, Turn, chains, minima, schedule};
+pub use schedules::{Range, Scheduling, Turn, chains, minima};

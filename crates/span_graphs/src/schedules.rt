@@ -1,7 +1,6 @@
 // In which order nodes are toggled on and off.
 use crate::graph::{Node, SpanGraph};
-use span_rows::{Stop, at, is_set, number, set};
-use std::alloc::Global;
+use plan_tools::{Table, Work, number};
 
 /// A turn of a schedule: a node, by its place in the order, is made, or is to be there no more.
 #[derive(Clone, Copy)]
@@ -15,163 +14,177 @@ pub enum Turn {
 }
 
 /// A range of places: from one to below another.
-#[derive(Clone, Copy, PartialEq, Eq)]
+#[derive(Clone, Copy)]
 pub struct Range {
     pub from: u32,
     pub to: u32,
 }
 
-/// Each node in turn, in segments that begin at `starts`. Behind each of the first `cleaned`
-/// segments its inner nodes go off, those in factors of it and in the bits of such nodes, from the
-/// last one on; so do those nodes without products that took lines of their own in an earlier sweep
-/// (`copies`). `blocks` are ranges of whole segments.
-pub fn schedule(
-    alloc: Global,
-    graph: &SpanGraph,
-    starts: &[u32],
-    cleaned: usize,
-    copies: &[bool],
-    blocks: &[Range],
-) -> Result<Vec<Turn>, Stop> {
-    let count = number(graph.nodes.len())?;
-    let mut turns = Vec::with_capacity(alloc, graph.nodes.len())?;
-    let mut inner = vec![in alloc; false; graph.nodes.len()]?;
-    for (segment, from) in starts.iter().enumerate() {
-        let next = starts.get(segment.saturating_add(1));
-        let part = Range {
-            from: *from,
-            to: next.copied().unwrap_or(count),
-        };
-        part.push_on(blocks, &mut turns)?;
-        if segment < cleaned {
-            part.mark_inner(graph, &mut inner)?;
+/// How a schedule is made.
+#[derive(Clone, Copy)]
+pub struct Scheduling<'s> {
+    /// The places at which segments begin.
+    pub starts: &'s [u32],
+    /// Behind how many segments, from the first on, their inner nodes go off: those in factors of
+    /// the segment and in the bits of such nodes.
+    pub cleaned: usize,
+    /// Of each node, whether it has no products and took a line of its own in an earlier sweep: it
+    /// goes off at the end of its segment.
+    pub copies: &'s Table<bool>,
+    /// Ranges of whole segments that are blocks.
+    pub blocks: &'s [Range],
+}
+
+impl Scheduling<'_> {
+    /// Each node in turn; behind each segment those that go off, from the last one on.
+    pub fn schedule(self, work: &mut Work, graph: &SpanGraph) -> Vec<Turn> {
+        let mut turns = Vec::new(work.alloc);
+        let mut inner = Table::new(work, graph.nodes.len(), false);
+        for segment in 0..self.starts.len() {
+            let range = self.range(graph, segment);
+            self.push_on(work, range, &mut turns);
+            if segment < self.cleaned {
+                range.mark_inner(graph, &mut inner);
+            }
+            if self.starts.len() > 1 {
+                self.push_off(work, graph, range, &inner, &mut turns);
+            }
+            self.push_close(work, range, &mut turns);
         }
-        if starts.len() > 1 {
-            part.push_off(graph, &inner, copies, &mut turns)?;
-        }
-        part.push_close(blocks, &mut turns)?;
+        turns
     }
-    Ok(turns)
+
+    // The nodes of a segment.
+    fn range(self, graph: &SpanGraph, segment: usize) -> Range {
+        let next = self.starts.get(segment.saturating_add(1)).copied();
+        Range {
+            from: self.starts.get(segment).copied().unwrap_or(0),
+            to: next.unwrap_or(number(graph.nodes.len())),
+        }
+    }
+
+    // Appends the turns by which nodes are made, and a block begins with them, if one does.
+    fn push_on(self, work: &mut Work, range: Range, turns: &mut Vec<Turn>) {
+        for block in self.blocks {
+            if block.from == range.from {
+                work.push(turns, Turn::Open);
+            }
+        }
+        for place in range.from..range.to {
+            work.push(turns, Turn::On(place));
+        }
+    }
+
+    // Appends the turns by which blocks end with a range.
+    fn push_close(self, work: &mut Work, range: Range, turns: &mut Vec<Turn>) {
+        for block in self.blocks {
+            if block.to == range.to {
+                work.push(turns, Turn::Close(*block));
+            }
+        }
+    }
+
+    // Appends the turns by which nodes go off: those that have lines, but not those of outputs.
+    fn push_off(
+        self,
+        work: &mut Work,
+        graph: &SpanGraph,
+        range: Range,
+        inner: &Table<bool>,
+        turns: &mut Vec<Turn>,
+    ) {
+        for place in (range.from..range.to).rev() {
+            let Some(node) = graph.node(place) else {
+                continue;
+            };
+            let marks = if node.is_linear() { self.copies } else { inner };
+            if !node.is_final && node.home.is_none() && marks.get(place) {
+                work.push(turns, Turn::Off(place));
+            }
+        }
+    }
 }
 
 impl Range {
-    // Appends the turns by which its nodes are made, and a block begins with it, if one does.
-    fn push_on(self, blocks: &[Range], turns: &mut Vec<Turn>) -> Result<(), Stop> {
-        if blocks.iter().any(|block| block.from == self.from) {
-            turns.push(Turn::Open)?;
-        }
-        for place in self.from..self.to {
-            turns.push(Turn::On(place))?;
-        }
-        Ok(())
-    }
-
-    // Appends the turns by which blocks end with it.
-    fn push_close(self, blocks: &[Range], turns: &mut Vec<Turn>) -> Result<(), Stop> {
-        for block in blocks.iter().filter(|block| block.to == self.to) {
-            turns.push(Turn::Close(*block))?;
-        }
-        Ok(())
-    }
-
     // Marks its nodes that are in factors of it, or in the bits of such a node.
-    fn mark_inner(self, graph: &SpanGraph, inner: &mut [bool]) -> Result<(), Stop> {
+    fn mark_inner(self, graph: &SpanGraph, inner: &mut Table<bool>) {
         for place in self.from..self.to {
-            self.mark_factors(graph, graph.node(place)?, inner)?;
-        }
-        for place in (self.from..self.to).rev() {
-            if is_set(inner, place) {
-                self.mark(graph, graph.node(place)?.bits(), inner)?;
+            if let Some(node) = graph.node(place) {
+                for product in &node.products {
+                    self.mark(graph, &product.first, inner);
+                    self.mark(graph, &product.second, inner);
+                }
             }
         }
-        Ok(())
-    }
-
-    fn mark_factors(self, graph: &SpanGraph, node: &Node, inner: &mut [bool]) -> Result<(), Stop> {
-        for product in &node.products {
-            self.mark(graph, &product.first, inner)?;
-            self.mark(graph, &product.second, inner)?;
+        for place in (self.from..self.to).rev() {
+            if let Some(node) = graph.node(place) {
+                if inner.get(place) {
+                    self.mark(graph, node.bits(), inner);
+                }
+            }
         }
-        Ok(())
     }
 
-    fn mark(self, graph: &SpanGraph, symbols: &[u32], inner: &mut [bool]) -> Result<(), Stop> {
+    fn mark(self, graph: &SpanGraph, symbols: &[u32], inner: &mut Table<bool>) {
         for symbol in symbols {
-            match graph.place(*symbol) {
-                Some(place) if place >= self.from => set(inner, place, true)?,
-                _ => {}
+            if let Some(place) = graph.place(*symbol) {
+                if place >= self.from {
+                    inner.set(place, true);
+                }
             }
         }
-        Ok(())
     }
-
-    // Appends the turns by which nodes go off.
-    fn push_off(
-        self,
-        graph: &SpanGraph,
-        inner: &[bool],
-        copies: &[bool],
-        turns: &mut Vec<Turn>,
-    ) -> Result<(), Stop> {
-        for place in (self.from..self.to).rev() {
-            let node = graph.node(place)?;
-            let marks = if node.is_linear() { copies } else { inner };
-            if may_go(node) && *at(marks, place)? {
-                turns.push(Turn::Off(place))?;
-            }
-        }
-        Ok(())
-    }
-}
-
-// Whether a node may go off a line: it has one, and not that of an output.
-fn may_go(node: &Node) -> bool {
-    !node.is_final && node.home.is_none()
 }
 
 /// Segments by chains of nodes with products, each of which has the one before in its sum: the
 /// places at which a chain has ended. Nodes without such a link belong to the chain behind them.
-pub fn chains(alloc: Global, graph: &SpanGraph) -> Result<Vec<u32>, Stop> {
-    let mut starts = Vec::from_slice(alloc, &[0])?;
+pub fn chains(work: &mut Work, graph: &SpanGraph) -> Vec<u32> {
+    let mut starts = work.copy(&[0]);
     let mut before = None;
     let mut is_linked = false;
     for (place, node) in graph.nodes.iter().enumerate() {
         if node.is_linear() {
             continue;
         }
-        let place = number(place)?;
-        if before.is_some_and(|symbol| is_made_of(node, symbol)) {
+        let place = number(place);
+        if is_made_of(node, before) {
             is_linked = true;
         } else if is_linked {
-            starts.push(place)?;
+            work.push(&mut starts, place);
             is_linked = false;
         }
         before = Some(graph.symbol(place));
     }
-    Ok(starts)
+    starts
 }
 
-fn is_made_of(node: &Node, symbol: u32) -> bool {
-    let in_factors = node.products.iter().any(|product| product.first.contains(&symbol)
-        || product.second.contains(&symbol));
-    in_factors || node.bits().contains(&symbol)
+// Whether a symbol is in a factor or among the bits of a node.
+fn is_made_of(node: &Node, symbol: Option<u32>) -> bool {
+    let Some(symbol) = symbol else {
+        return false;
+    };
+    for product in &node.products {
+        if product.first.contains(&symbol) || product.second.contains(&symbol) {
+            return true;
+        }
+    }
+    node.bits().contains(&symbol)
 }
 
 /// Segments that begin where the rank has a least value between a fall and a rise by `by`.
-pub fn minima(alloc: Global, ranks: &[u32], by: u32) -> Result<Vec<u32>, Stop> {
-    let mut starts = Vec::from_slice(alloc, &[0])?;
-    let first = ranks.first().copied().unwrap_or(0);
+pub fn minima(work: &mut Work, ranks: &[u32], by: u32) -> Vec<u32> {
+    let mut starts = work.copy(&[0]);
     let mut trend = Trend {
         is_falling: false,
-        extreme: first,
+        extreme: ranks.first().copied().unwrap_or(0),
         place: 0,
     };
     for (place, rank) in ranks.iter().enumerate() {
-        if let Some(start) = trend.next(number(place)?, *rank, by) {
-            starts.push(start)?;
+        if let Some(start) = trend.next(number(place), *rank, by) {
+            work.push(&mut starts, start);
         }
     }
-    Ok(starts)
+    starts
 }
 
 // Where ranks go: the greatest one since they rise, or the least one since they fall, and its

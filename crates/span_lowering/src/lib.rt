@@ -6,4 +6,4 @@ mod lowering;
 mod order;
 mod outputs;
 
-pub use lowering::lowered;
+pub use lowering::lower;

@@ -1,172 +1,114 @@
 // How the graph that is swept comes from a graph of sums.
 use crate::order::Order;
-use crate::outputs::{push_outputs, top_node};
+use crate::outputs::push_outputs;
 use bit_sums::Sum;
+use plan_tools::{Stop, Table, Work, number};
 use span_graphs::{Node, Product, SpanGraph};
-use span_rows::{Stop, is_set};
 use std::alloc::Global;
 use sum_graph::SumGraph;
+
+/// The most symbols that are added to write outputs out.
+const MOST_WORK: u64 = 20_000_000;
 
 /// The graph that is swept for these sums.
 ///
 /// # Errors
 ///
-/// `Lost` where writing the outputs out takes too much work, or where a node or an output is not
-/// found at its place; `Memory` where memory is refused. No clause says so.
-pub fn lowered(alloc: Global, graph: &SumGraph) -> Result<SpanGraph, Stop> {
-    let order = Order::of(alloc, graph)?;
+/// `GaveUp` where writing the outputs out takes too much work; `Memory` where memory is refused. No
+/// clause says so.
+pub fn lower(alloc: Global, graph: &SumGraph) -> Result<SpanGraph, Stop> {
+    let mut work = Work::new(alloc, MOST_WORK);
+    let order = Order::of(&mut work, graph);
     let mut lowered = SpanGraph {
         inputs: graph.inputs(),
-        nodes: Vec::new(alloc),
+        nodes: nodes_of(&mut work, graph, &order),
         outputs: Vec::new(alloc),
     };
-    lower(alloc, graph, &order, &mut lowered)?;
-    Ok(lowered)
+    mark_finals(&mut work, &mut lowered);
+    push_outputs(&mut work, graph, &order, &mut lowered);
+    work.finish(lowered)
 }
 
-// Puts the nodes and the outputs into an empty graph.
-fn lower(
-    alloc: Global,
-    graph: &SumGraph,
-    order: &Order,
-    lowered: &mut SpanGraph,
-) -> Result<(), Stop> {
-    push_nodes(alloc, graph, order, &mut lowered.nodes)?;
-    mark_finals(alloc, graph.inputs(), &mut lowered.nodes)?;
-    push_outputs(
-        alloc,
-        graph,
-        order,
-        &mut lowered.nodes,
-        &mut lowered.outputs,
-    )
-}
-
-fn push_nodes(
-    alloc: Global,
-    graph: &SumGraph,
-    order: &Order,
-    nodes: &mut Vec<Node>,
-) -> Result<(), Stop> {
+fn nodes_of(work: &mut Work, graph: &SumGraph, order: &Order) -> Vec<Node> {
+    let mut nodes = Vec::new(work.alloc);
     let mut symbol = graph.inputs();
     for name in &order.names {
-        let mut node = new_node(alloc, *name);
-        fill(alloc, graph, order, symbol, &mut node)?;
-        nodes.push(node)?;
+        let node = node_of(work, graph, order, *name, symbol);
+        work.push(&mut nodes, node);
         symbol = symbol.saturating_add(1);
     }
-    Ok(())
+    nodes
 }
 
-fn new_node(alloc: Global, name: u32) -> Node {
-    Node {
+// A node with its name and its symbol. Of an output it has the products alone: its bits are copied
+// from other lines.
+fn node_of(work: &mut Work, graph: &SumGraph, order: &Order, name: u32, symbol: u32) -> Node {
+    let mut node = Node {
         name,
-        event: Vec::new(alloc),
-        products: Vec::new(alloc),
+        event: work.copy(&[symbol]),
+        products: Vec::new(work.alloc),
         is_final: false,
-        targets: Vec::new(alloc),
+        targets: Vec::new(work.alloc),
         home: None,
-    }
-}
-
-// Fills a node with what it is the sum of. Of an output that is the products alone: its bits are
-// copied from other lines.
-fn fill(
-    alloc: Global,
-    graph: &SumGraph,
-    order: &Order,
-    symbol: u32,
-    node: &mut Node,
-) -> Result<(), Stop> {
-    node.event.push(symbol)?;
-    let nodes = graph.nodes();
-    if node.name < nodes {
-        let sum = graph.node(node.name);
-        node.event.append(&mut order.vector(alloc, sum.bits())?)?;
-        return push_products(alloc, order, sum, &mut node.products);
-    }
-    let output = node.name - nodes;
-    node.targets.push(output)?;
-    match graph.outputs().get(output as usize) {
-        Some(sum) => push_products(alloc, order, sum, &mut node.products),
-        None => Err(Stop::Lost),
-    }
-}
-
-fn push_products(
-    alloc: Global,
-    order: &Order,
-    sum: &Sum,
-    products: &mut Vec<Product>,
-) -> Result<(), Stop> {
-    for product in sum.products() {
-        push_product(alloc, order, product, products)?;
-    }
-    Ok(())
-}
-
-fn push_product(
-    alloc: Global,
-    order: &Order,
-    product: &bit_sums::Product,
-    products: &mut Vec<Product>,
-) -> Result<(), Stop> {
-    let first = order.vector(alloc, product.first())?;
-    let second = order.vector(alloc, product.second())?;
-    let product = Product {
-        first,
-        second,
-        first_written: Vec::new(alloc),
-        second_written: Vec::new(alloc),
     };
-    products.push(product).map_err(Stop::from)
-}
-
-// Marks the nodes that only outputs want.
-fn mark_finals(alloc: Global, inputs: u32, nodes: &mut [Node]) -> Result<(), Stop> {
-    let mut wanted = vec![in alloc; false; nodes.len()]?;
-    mark_wanted(&mut wanted, inputs, nodes);
-    let mut place: u32 = 0;
-    for node in nodes.iter_mut() {
-        node.is_final = !is_set(&wanted, place);
-        place = place.saturating_add(1);
+    if name < graph.nodes() {
+        let sum = graph.node(name);
+        let bits = order.vector(work, sum.bits());
+        work.append(&mut node.event, &bits);
+        push_products(work, order, sum, &mut node.products);
+        return node;
     }
-    Ok(())
-}
-
-// Marks the nodes in factors, and in the bits of nodes that are marked. A node stands behind all
-// that it has in it, so that what marks it was seen before it.
-fn mark_wanted(wanted: &mut [bool], inputs: u32, nodes: &[Node]) {
-    for node in nodes.iter().rev() {
-        mark_factors(wanted, inputs, node);
-        mark_bits(wanted, inputs, node);
+    let output = name - graph.nodes();
+    work.push(&mut node.targets, output);
+    if let Some(sum) = graph.outputs().get(output as usize) {
+        push_products(work, order, sum, &mut node.products);
     }
+    node
 }
 
-// Marks the nodes in the factors of a node.
-fn mark_factors(wanted: &mut [bool], inputs: u32, node: &Node) {
-    for product in &node.products {
-        mark(wanted, inputs, &product.first);
-        mark(wanted, inputs, &product.second);
+fn push_products(work: &mut Work, order: &Order, sum: &Sum, products: &mut Vec<Product>) {
+    for product in sum.products() {
+        let product = Product {
+            first: order.vector(work, product.first()),
+            second: order.vector(work, product.second()),
+            first_written: Vec::new(work.alloc),
+            second_written: Vec::new(work.alloc),
+        };
+        work.push(products, product);
     }
 }
 
-// Marks the nodes in the bits of a node that is marked.
-fn mark_bits(wanted: &mut [bool], inputs: u32, node: &Node) {
-    if let Some(place) = top_node(inputs, &node.event) {
-        if is_set(wanted, place) {
-            mark(wanted, inputs, node.bits());
+// Marks the nodes that only outputs want: those that are not in factors, nor in the bits of such a
+// node. A node stands behind all that it has in it, so that what wants it was seen before it.
+fn mark_finals(work: &mut Work, graph: &mut SpanGraph) {
+    let mut wanted = Table::new(work, graph.nodes.len(), false);
+    for place in (0..number(graph.nodes.len())).rev() {
+        if let Some(node) = graph.node(place) {
+            mark_wanted(&mut wanted, graph, node, place);
         }
     }
+    let mut place: u32 = 0;
+    for node in graph.nodes.iter_mut() {
+        node.is_final = !wanted.get(place);
+        place = place.saturating_add(1);
+    }
 }
 
-fn mark(wanted: &mut [bool], inputs: u32, symbols: &[u32]) {
+// Marks what is in the factors of a node, and, where it is marked, in its bits.
+fn mark_wanted(wanted: &mut Table<bool>, graph: &SpanGraph, node: &Node, place: u32) {
+    for product in &node.products {
+        mark(wanted, graph, &product.first);
+        mark(wanted, graph, &product.second);
+    }
+    if wanted.get(place) {
+        mark(wanted, graph, node.bits());
+    }
+}
+
+fn mark(wanted: &mut Table<bool>, graph: &SpanGraph, symbols: &[u32]) {
     for symbol in symbols {
-        if *symbol >= inputs {
-            let place = (*symbol - inputs) as usize;
-            if place < wanted.len() {
-                wanted[place] = true;
-            }
+        if let Some(place) = graph.place(*symbol) {
+            wanted.set(place, true);
         }
     }
 }

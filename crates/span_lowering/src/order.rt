@@ -1,8 +1,7 @@
 // The order of the nodes.
 use bit_sums::{Product, Sum};
 use dependency_graph::Base;
-use span_rows::{Stop, at};
-use std::alloc::Global;
+use plan_tools::{Table, Work};
 use sum_graph::SumGraph;
 
 /// The order of nodes, and the symbol of each of them.
@@ -12,37 +11,38 @@ pub struct Order {
     /// products.
     pub names: Vec<u32>,
     /// Of each node of the graph of sums its symbol.
-    symbols: Vec<u32>,
+    symbols: Table<u32>,
 }
 
 impl Order {
     /// A node without products stands right before the first node that has it in its sum, and the
     /// products of an output right behind the last node in their factors.
-    pub fn of(alloc: Global, graph: &SumGraph) -> Result<Order, Stop> {
-        let mut symbols = vec![in alloc; 0; graph.nodes() as usize]?;
-        let mut keys = late_keys(alloc, graph)?;
+    pub fn of(work: &mut Work, graph: &SumGraph) -> Order {
+        let mut symbols = Table::new(work, graph.nodes() as usize, 0);
+        let mut keys = late_keys(work, graph);
         number_keys(&mut keys, 0, &mut symbols);
-        push_output_keys(graph, &symbols, &mut keys)?;
+        push_output_keys(work, graph, &symbols, &mut keys);
         keys.sort_unstable();
         number_keys(&mut keys, graph.inputs(), &mut symbols);
-        let names = names_of(alloc, &keys)?;
-        Ok(Order { names, symbols })
+        let mut names = Vec::new(work.alloc);
+        for key in &keys {
+            work.push(&mut names, key.name);
+        }
+        Order { names, symbols }
     }
 
     /// The vector of a sum of bits.
-    pub fn vector(&self, alloc: Global, bits: &[Base]) -> Result<Vec<u32>, Stop> {
-        let mut symbols = Vec::new(alloc);
+    pub fn vector(&self, work: &mut Work, bits: &[Base]) -> Vec<u32> {
+        let mut symbols = Vec::new(work.alloc);
         for bit in bits {
-            symbols.push(self.symbol(*bit)?)?;
+            let symbol = match bit {
+                Base::Input(input) => *input,
+                Base::Node(node) => self.symbols.get(*node),
+            };
+            work.push(&mut symbols, symbol);
         }
-        span_rows::falling(symbols).map_err(Stop::from)
-    }
-
-    fn symbol(&self, bit: Base) -> Result<u32, Stop> {
-        match bit {
-            Base::Input(input) => Ok(input),
-            Base::Node(node) => at(&self.symbols, node).copied(),
-        }
+        work.sort_falling(&mut symbols);
+        symbols
     }
 }
 
@@ -59,58 +59,41 @@ struct Key {
 
 // Gives the keys the places at which they stand, from `first` on, and notes those of the nodes,
 // behind any outputs there.
-fn number_keys(keys: &mut [Key], first: u32, places: &mut [u32]) {
+fn number_keys(keys: &mut [Key], first: u32, places: &mut Table<u32>) {
     let mut place = first;
     for key in keys.iter_mut() {
         key.place = place;
         key.is_late = true;
-        let name = key.name as usize;
-        if name < places.len() {
-            places[name] = place;
-        }
+        places.set(key.name, place);
         place = place.saturating_add(1);
     }
 }
 
-fn names_of(alloc: Global, keys: &[Key]) -> Result<Vec<u32>, Stop> {
-    let mut names = Vec::new(alloc);
-    for key in keys {
-        names.push(key.name)?;
-    }
-    Ok(names)
-}
-
 // The nodes, each without products right before its first user; users that move count where they
 // go.
-fn late_keys(alloc: Global, graph: &SumGraph) -> Result<Vec<Key>, Stop> {
+fn late_keys(work: &mut Work, graph: &SumGraph) -> Vec<Key> {
     let count = graph.nodes();
-    let mut users = vec![in alloc; count; count as usize]?;
-    let mut keys = Vec::new(alloc);
+    let mut users = Table::new(work, count as usize, count);
+    let mut keys = Vec::new(work.alloc);
     for node in (0..count).rev() {
-        keys.push(late_key(graph.node(node), node, &mut users))?;
+        let sum = graph.node(node);
+        let is_late = !sum.products().is_empty();
+        let place = if is_late { node } else { users.get(node) };
+        note_users(&mut users, sum, place);
+        let key = Key {
+            place,
+            is_late,
+            bits: None,
+            name: node,
+        };
+        work.push(&mut keys, key);
     }
     keys.sort_unstable();
-    Ok(keys)
-}
-
-// The key of a node, which is noted as a user.
-fn late_key(sum: &Sum, node: u32, users: &mut [u32]) -> Key {
-    let is_late = !sum.products().is_empty();
-    let place = match users.get(node as usize) {
-        Some(user) if !is_late => *user,
-        _ => node,
-    };
-    note_users(users, sum, place);
-    Key {
-        place,
-        is_late,
-        bits: None,
-        name: node,
-    }
+    keys
 }
 
 // Notes a user of all that a sum is made of, where it is the first so far.
-fn note_users(users: &mut [u32], sum: &Sum, place: u32) {
+fn note_users(users: &mut Table<u32>, sum: &Sum, place: u32) {
     note_user(users, sum.bits(), place);
     for product in sum.products() {
         note_user(users, product.first(), place);
@@ -118,43 +101,37 @@ fn note_users(users: &mut [u32], sum: &Sum, place: u32) {
     }
 }
 
-fn note_user(users: &mut [u32], bits: &[Base], place: u32) {
+fn note_user(users: &mut Table<u32>, bits: &[Base], place: u32) {
     for bit in bits {
         if let Base::Node(node) = bit {
-            let node = *node as usize;
-            if node < users.len() {
-                users[node] = place.min(users[node]);
-            }
+            users.set(*node, place.min(users.get(*node)));
         }
     }
 }
 
 // Appends the outputs that have products, for nodes at these places.
-fn push_output_keys(graph: &SumGraph, places: &[u32], keys: &mut Vec<Key>) -> Result<(), Stop> {
+fn push_output_keys(work: &mut Work, graph: &SumGraph, places: &Table<u32>, keys: &mut Vec<Key>) {
     let mut name = graph.nodes();
     for output in graph.outputs() {
         if let Some(product) = output.products().first() {
-            keys.push(Key {
+            let key = Key {
                 place: behind_factors(output, places),
                 is_late: false,
                 bits: first_bits(product),
                 name,
-            })?;
+            };
+            work.push(keys, key);
         }
         name = name.saturating_add(1);
     }
-    Ok(())
 }
 
 fn first_bits(product: &Product) -> Option<(Base, Base)> {
-    match (product.first().first(), product.second().first()) {
-        (Some(first), Some(second)) => Some((*first, *second)),
-        _ => None,
-    }
+    Some((*product.first().first()?, *product.second().first()?))
 }
 
 // The least place behind all nodes that are in factors of a sum.
-fn behind_factors(sum: &Sum, places: &[u32]) -> u32 {
+fn behind_factors(sum: &Sum, places: &Table<u32>) -> u32 {
     let mut behind = 0;
     for product in sum.products() {
         behind = behind.max(behind_bits(product.first(), places));
@@ -163,14 +140,11 @@ fn behind_factors(sum: &Sum, places: &[u32]) -> u32 {
     behind
 }
 
-fn behind_bits(bits: &[Base], places: &[u32]) -> u32 {
-    let mut behind = 0;
+fn behind_bits(bits: &[Base], places: &Table<u32>) -> u32 {
+    let mut behind: u32 = 0;
     for bit in bits {
         if let Base::Node(node) = bit {
-            let node = *node as usize;
-            if node < places.len() {
-                behind = places[node].saturating_add(1).max(behind);
-            }
+            behind = places.get(*node).saturating_add(1).max(behind);
         }
     }
     behind

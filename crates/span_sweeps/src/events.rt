@@ -1,5 +1,6 @@
 // What a sweep finds, for its replay.
-use span_rows::{Add, Row};
+use plan_tools::Row;
+use span_rows::Add;
 
 /// The two factors of a product, each as the sum of some rows.
 #[derive(Drop)]
@@ -77,4 +78,11 @@ pub enum Event {
 pub struct End {
     pub onto: u32,
     pub rows: Vec<Row>,
+}
+
+/// A row with its vector.
+#[derive(Drop)]
+pub struct RowVector {
+    pub row: Row,
+    pub vector: Vec<u32>,
 }

@@ -1,15 +1,20 @@
-//! Sweeps: which rows of sums have to be there at each moment of a schedule of toggles, and by
-//! which additions they come about. A sweep makes no gates; it tells what lines and Toffoli gates a
-//! plan takes, and what its replay needs.
+//! Sweeps over schedules from their ends, and the search for the schedule whose sweep makes the
+//! best span plan. A sweep keeps a basis of what is wanted of lines at each moment, and so tells
+//! which rows are made, what lines and gates a plan has then, and what its replay needs.
 #![tactic(auto)]
 
 mod blocks;
+mod bounds;
 mod events;
 mod measures;
-mod state;
+mod rule;
+mod search;
+mod shapes;
+mod sweeper;
 mod sweeping;
 mod toggles;
 
-pub use events::{End, Event, Factors, Toggle};
+pub use events::{End, Event, Factors, RowVector, Toggle};
 pub use measures::Measures;
-pub use sweeping::{Swept, sweep};
+pub use search::{Candidate, Candidates, MOST_SWEPT, best_sweeps};
+pub use sweeping::{Sweep, sweep_over};

@@ -1,6 +1,6 @@
 // What a plan costs, as far as a sweep tells.
-use crate::events::{End, Event, Toggle};
-use span_rows::Row;
+use crate::events::{End, Event, RowVector, Toggle};
+use plan_tools::number;
 
 /// The work lines and the gates of a plan. The CX gates are those of its replay, but that some of
 /// them are then saved.
@@ -13,22 +13,20 @@ pub struct Measures {
 
 impl Measures {
     /// Of nothing.
-    pub fn none() -> Measures {
-        Measures {
-            work: 0,
-            toffoli: 0,
-            cx: 0,
-        }
-    }
+    pub const NONE: Measures = Measures {
+        work: 0,
+        toffoli: 0,
+        cx: 0,
+    };
 
     /// Those of these events, between these rows of inputs and ends.
-    pub fn of(events: &[Event], first: &[(Row, Vec<u32>)], ends: &[End]) -> Measures {
+    pub fn of(events: &[Event], first: &[RowVector], ends: &[End]) -> Measures {
         let mut count = Count {
             held: 0,
             block: None,
-            measures: Measures::none(),
+            measures: Measures::NONE,
         };
-        for (_, vector) in first {
+        for RowVector { vector, .. } in first {
             count.add_cx(2, vector.len().saturating_sub(1));
         }
         for end in ends {
@@ -38,6 +36,16 @@ impl Measures {
             count.add(event);
         }
         count.measures
+    }
+
+    /// The CX and Toffoli gates.
+    pub fn gates(self) -> u64 {
+        self.toffoli.saturating_add(self.cx)
+    }
+
+    /// Whether it takes no more of anything.
+    pub fn is_no_worse_than(self, other: Measures) -> bool {
+        self.work <= other.work && self.toffoli <= other.toffoli && self.gates() <= other.gates()
     }
 }
 
@@ -53,46 +61,32 @@ struct Count {
 impl Count {
     fn add(&mut self, event: &Event) {
         match event {
+            // A node that has a home is toggled once, and takes no work line.
+            Event::On {
+                toggle,
+                rest: Some(_),
+                ..
+            } => self.add_toggle(1, toggle),
             Event::On {
                 toggle,
                 is_fresh,
-                rest,
                 ..
-            } => self.add_on(toggle, *is_fresh, rest.is_some()),
-            Event::Off { toggle, .. } => self.add_off(toggle),
+            } => {
+                self.add_toggle(self.times(), toggle);
+                self.hold(usize::from(*is_fresh));
+            }
+            Event::Off { toggle, .. } => {
+                self.add_toggle(self.times(), toggle);
+                self.held = self.held.saturating_sub(1);
+            }
             Event::Final { toggle } => self.add_toggle(1, toggle),
             Event::Part { toggle, .. } => self.add_toggle(2, toggle),
-            Event::Open { rows } => self.open(rows.len()),
-            Event::Close { .. } => self.close(),
-        }
-    }
-
-    // A node that has a home is toggled once, and takes no work line.
-    fn add_on(&mut self, toggle: &Toggle, is_fresh: bool, has_home: bool) {
-        if has_home {
-            return self.add_toggle(1, toggle);
-        }
-        self.add_toggle(self.times(), toggle);
-        if is_fresh {
-            self.hold(1);
-        }
-    }
-
-    fn add_off(&mut self, toggle: &Toggle) {
-        self.add_toggle(self.times(), toggle);
-        self.held = self.held.saturating_sub(1);
-    }
-
-    // A block begins, so many rows of which get lines.
-    fn open(&mut self, rows: usize) {
-        self.hold(rows);
-        self.block = Some(self.held);
-    }
-
-    // A block ends: only the lines of its rows are still held. A sweep has both ends of a block.
-    fn close(&mut self) {
-        if let Some(held) = self.block.take() {
-            self.held = held;
+            Event::Open { rows } => {
+                self.hold(rows.len());
+                self.block = Some(self.held);
+            }
+            // Only the lines of the block's rows are still held.
+            Event::Close { .. } => self.held = self.block.take().unwrap_or(self.held),
         }
     }
 
@@ -105,8 +99,7 @@ impl Count {
     // So many work lines more are held.
     fn hold(&mut self, lines: usize) {
         self.held = self.held.saturating_add(lines);
-        let work = u32::try_from(self.held).unwrap_or(u32::MAX);
-        self.measures.work = self.measures.work.max(work);
+        self.measures.work = self.measures.work.max(number(self.held));
     }
 
     // The products of a toggle, so many times, and the additions of it and of what is gathered for

@@ -1,24 +1,23 @@
 // Sweeps over a schedule, from its end.
-use crate::events::{End, Event};
+use crate::events::{End, Event, RowVector};
 use crate::measures::Measures;
-use crate::state::Sweep;
+use crate::sweeper::Sweeper;
+use plan_tools::{Stop, Table, Work};
 use span_graphs::{SpanGraph, Turn};
-use span_rows::{Row, Rows, Stop};
-use std::alloc::Global;
-use std::mem;
+use span_rows::Rows;
 
 /// The most additions and rows of factors that a sweep notes. Each is a gate and more.
 const MOST_NOTED: usize = 4_000_000;
 
-/// What a sweep found.
+/// What a sweep over a schedule found.
 #[derive(Drop)]
-pub struct Swept {
+pub struct Sweep {
     /// In the order of the schedule.
     pub events: Vec<Event>,
     /// How many rows there are in all.
     pub rows: usize,
-    /// The rows at the beginning, whose vectors are sums of inputs, with these; their heads fall.
-    pub first: Vec<(Row, Vec<u32>)>,
+    /// The rows at the beginning, whose vectors are sums of inputs; their heads fall.
+    pub first: Vec<RowVector>,
     pub ends: Vec<End>,
     /// The rank of the rows before each turn.
     pub ranks: Vec<u32>,
@@ -27,142 +26,109 @@ pub struct Swept {
     pub measures: Measures,
 }
 
-impl Swept {
-    fn none(alloc: Global) -> Swept {
-        Swept {
-            events: Vec::new(alloc),
-            rows: 0,
-            first: Vec::new(alloc),
-            ends: Vec::new(alloc),
-            ranks: Vec::new(alloc),
-            work: 0,
-            measures: Measures::none(),
-        }
-    }
-}
-
 /// Goes over a schedule from its end, and keeps a basis of what is wanted at each moment. `forced`
-/// says of each node whether its rows are to have no other symbol. It is lost where it would add
-/// more than `most` symbols, or note too much.
-pub fn sweep(
-    alloc: Global,
+/// says of each node whether its rows are to have no other symbol. Each symbol that is added is a
+/// unit of work.
+///
+/// # Errors
+///
+/// `GaveUp` where the work is spent, or the sweep would note too much; `Memory` where memory is
+/// refused. No clause says so.
+pub fn sweep_over(
+    mut work: Work,
     graph: &SpanGraph,
     turns: &[Turn],
-    forced: &[bool],
-    most: u64,
-) -> Result<Swept, Stop> {
-    let mut swept = Swept::none(alloc);
-    sweep_into(&mut swept, alloc, graph, turns, forced, most)?;
-    Ok(swept)
-}
-
-// Goes over a schedule from its end, and notes what it finds.
-fn sweep_into(
-    swept: &mut Swept,
-    alloc: Global,
-    graph: &SpanGraph,
-    turns: &[Turn],
-    forced: &[bool],
-    most: u64,
-) -> Result<(), Stop> {
-    let rows = begun_rows(alloc, graph, forced, most)?;
-    let mut sweep = Sweep::new(alloc, graph, rows);
-    sweep.go_over(turns, swept)
+    forced: &Table<bool>,
+) -> Result<Sweep, Stop> {
+    let rows = first_rows(&mut work, graph, forced);
+    let mut sweeper = Sweeper::new(graph, work, rows);
+    let found = sweeper.sweep(turns);
+    sweeper.work.finish(found)
 }
 
 // No rows, over the symbols of the graph.
-fn begun_rows(alloc: Global, graph: &SpanGraph, forced: &[bool], most: u64) -> Result<Rows, Stop> {
-    let linear = linear_symbols(alloc, graph)?;
-    let alone = forced_symbols(alloc, graph, forced)?;
-    Rows::new(alloc, linear, alone, most)
-}
-
-// Of each symbol, whether it is that of a node without products.
-fn linear_symbols(alloc: Global, graph: &SpanGraph) -> Result<Vec<bool>, Stop> {
-    let mut linear = vec![in alloc; false; graph.inputs as usize]?;
+fn first_rows(work: &mut Work, graph: &SpanGraph, forced: &Table<bool>) -> Rows {
+    let mut linear = work.filled(false, graph.inputs as usize);
     for node in &graph.nodes {
-        linear.push(node.is_linear())?;
+        work.push(&mut linear, node.is_linear());
     }
-    Ok(linear)
+    let mut alone = work.filled(false, graph.inputs as usize);
+    work.append(&mut alone, forced.items());
+    Rows::new(work, linear, alone)
 }
 
-// Of each symbol, whether it is that of a node whose rows are to have no other symbol.
-fn forced_symbols(alloc: Global, graph: &SpanGraph, forced: &[bool]) -> Result<Vec<bool>, Stop> {
-    let mut alone = vec![in alloc; false; graph.inputs as usize]?;
-    alone.extend_from_slice(forced)?;
-    Ok(alone)
-}
-
-impl Sweep<'_> {
+impl Sweeper<'_> {
     // Goes back over all turns, from what is wanted in the end to the inputs.
-    fn go_over(&mut self, turns: &[Turn], swept: &mut Swept) -> Result<(), Stop> {
-        self.insert_homes()?;
-        self.insert_ends()?;
-        self.push_ends(&mut swept.ends)?;
-        self.back_over_all(turns, &mut swept.ranks)?;
-        self.take_rows(0, self.graph.inputs, &mut swept.first)?;
+    fn sweep(&mut self, turns: &[Turn]) -> Sweep {
+        self.insert_outputs();
+        let ends = self.ends();
+        let ranks = self.go_back(turns);
+        let mut first = self.take_rows(0, self.graph.inputs);
+        first.reverse();
         if self.block.is_some() {
-            return Err(Stop::Lost);
+            self.work.give_up();
         }
-        swept.first.reverse();
-        mem::swap(&mut swept.events, &mut self.events);
-        swept.events.reverse();
-        swept.rows = self.rows.made();
-        swept.work = self.rows.work();
-        swept.measures = Measures::of(&swept.events, &swept.first, &swept.ends);
-        Ok(())
+        let mut events = self.work.take(&mut self.events);
+        events.reverse();
+        Sweep {
+            measures: Measures::of(&events, &first, &ends),
+            events,
+            rows: self.rows.made(),
+            first,
+            ends,
+            ranks,
+            work: self.work.spent(),
+        }
     }
 
-    // The nodes that have homes are wanted in the end.
-    fn insert_homes(&mut self) -> Result<(), Stop> {
+    // The nodes that have homes are wanted in the end, and the other outputs.
+    fn insert_outputs(&mut self) {
         for node in &self.graph.nodes {
             if node.home.is_some() {
-                self.rows.insert(self.alloc, &node.event, &mut self.done)?;
+                self.rows.insert(&mut self.work, &node.event);
             }
         }
-        Ok(())
-    }
-
-    // The other outputs are wanted in the end.
-    fn insert_ends(&mut self) -> Result<(), Stop> {
         for output in &self.graph.outputs {
             if !output.has_home {
-                self.rows
-                    .insert(self.alloc, &output.vector, &mut self.done)?;
+                self.rows.insert(&mut self.work, &output.vector);
             }
         }
-        Ok(())
     }
 
-    // Appends the rows of the outputs without homes.
-    fn push_ends(&mut self, ends: &mut Vec<End>) -> Result<(), Stop> {
+    // The rows of the outputs without homes.
+    fn ends(&mut self) -> Vec<End> {
+        let mut ends = Vec::new(self.work.alloc);
         let mut onto: u32 = 0;
         for output in &self.graph.outputs {
             if !output.has_home {
-                self.push_end(onto, &output.vector, ends)?;
+                let end = self.end(onto, &output.vector);
+                self.work.push(&mut ends, end);
             }
             onto = onto.saturating_add(1);
         }
-        Ok(())
+        ends
     }
 
-    // Goes back over all turns, and notes the rank before each, in their order.
-    fn back_over_all(&mut self, turns: &[Turn], ranks: &mut Vec<u32>) -> Result<(), Stop> {
+    // Goes back over all turns; the rank before each, in their order.
+    fn go_back(&mut self, turns: &[Turn]) -> Vec<u32> {
+        let mut ranks = Vec::new(self.work.alloc);
         for turn in turns.iter().rev() {
-            self.back_over(*turn)?;
-            ranks.push(self.rows.rank())?;
+            self.go_back_over(*turn);
+            self.work.push(&mut ranks, self.rows.rank());
             if self.noted > MOST_NOTED {
-                return Err(Stop::Lost);
+                self.work.give_up();
+            }
+            if self.work.is_stopped() {
+                break;
             }
         }
         ranks.reverse();
-        Ok(())
+        ranks
     }
 
     // Goes back over a turn.
-    fn back_over(&mut self, turn: Turn) -> Result<(), Stop> {
-        self.done.adds.clear();
-        self.done.new.clear();
+    fn go_back_over(&mut self, turn: Turn) {
+        self.rows.clear_insertions();
         match turn {
             Turn::Open => self.back_over_open(),
             Turn::Close(range) => self.back_over_close(range),

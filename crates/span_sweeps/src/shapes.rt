@@ -1,7 +1,6 @@
 // Blocks of segments.
-use revc_base::Memory;
+use plan_tools::Work;
 use span_graphs::Range;
-use std::alloc::Global;
 
 /// The blocks that are tried where no cleaning is enough: how many twentieths of the segments each
 /// has, 0 where there is none.
@@ -18,31 +17,28 @@ pub const SHAPES: [[usize; 3]; 9] = [
 ];
 
 /// Blocks of so many twentieths of the segments, from the first on. Each ends at the segment before
-/// which the rank is the least within a twentieth.
-pub fn blocks_of(
-    alloc: Global,
-    starts: &[u32],
-    shape: &[usize],
-    ranks: &[u32],
-) -> Result<Vec<Range>, Memory> {
-    let mut blocks = Vec::new(alloc);
+/// which the rank is the least within a twentieth. There are none where one would be empty.
+pub fn blocks_of(work: &mut Work, starts: &[u32], shape: &[usize], ranks: &[u32]) -> Vec<Range> {
+    let mut blocks = Vec::new(work.alloc);
     let (mut from, mut share): (usize, usize) = (0, 0);
     for twentieths in shape {
         if *twentieths == 0 {
-            return Ok(blocks);
+            break;
         }
         share = share.saturating_add(*twentieths);
         let middle = starts.len().saturating_mul(share) / 20;
         let Some(to) = least_within(starts, ranks, from, middle) else {
-            return Ok(Vec::new(alloc));
+            blocks.clear();
+            break;
         };
-        blocks.push(Range {
+        let block = Range {
             from: number_at(starts, from),
             to: number_at(starts, to),
-        })?;
+        };
+        work.push(&mut blocks, block);
         from = to;
     }
-    Ok(blocks)
+    blocks
 }
 
 // The segment behind `from` with the least rank within a twentieth around `middle`.
