@@ -1,3 +1,4 @@
 pub mod CompileLemmas
+pub mod OrderingLemmas
 pub mod PlanLemmas
 pub mod BenchLemmas

@@ -5,4 +5,5 @@
 pub mod bench;
 pub mod compile;
 pub mod generate;
+mod ordering;
 mod planning;
