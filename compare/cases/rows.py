@@ -159,12 +159,12 @@ LEANED = [
     (LEAN, OF_FIVE, "x0 x1 x2 x3 x4 x5 y0 y1 w0: t2 x0 w0, t2 x1 w0, t2 x2 w0, t2 x3 w0, t2 x4 w0, t3 x5 w0 y0, "
      "t2 w0 y1, t2 x4 w0, t2 x3 w0, t2 x2 w0, t2 x1 w0, t2 x0 w0"),
     (LEAN, "main (a : bool[2]) = true", "x0 x1 y0: t1 y0"),
-    (LEAN, FULL_ADDER, "x0 x1 x2 y0 y1: t2 x0 y0, t2 x1 y0, t2 x2 y0, t2 x2 y1, t2 x2 x0, t2 x2 x1, t3 x0 x1 y1, "
+    (LEAN, FULL_ADDER, "x0 x1 x2 y0 y1: t2 x0 y0, t2 x2 y1, t2 x1 y0, t2 x2 x0, t2 x2 x1, t2 x2 y0, t3 x0 x1 y1, "
      "t2 x2 x1, t2 x2 x0"),
     # A product, a part of it, and the same sum twice
     (LEAN, BITS + "a && (a <> b)", "x0 x1 y0: t2 x0 y0, t3 x0 x1 y0"),
     (LEAN, BITS + "reg [a && b; b && a; true <> a && b]",
-     "x0 x1 y0 y1 y2: t3 x0 x1 y0, t3 x0 x1 y1, t3 x0 x1 y2, t1 y2"),
+     "x0 x1 y0 y1 y2: t3 x0 x1 y0, t1 y2, t3 x0 x1 y1, t3 x0 x1 y2"),
     (LEAN, BITS + "a && b <> b && a", "x0 x1 y0: "),
     # With a line for each of three products, and with one line less
     (LEAN, AND_OF_5, "x0 x1 x2 x3 x4 y0 w0 w1 w2: t3 x0 x1 w0, t3 x2 w0 w1, t3 x3 w1 w2, t3 x4 w2 y0, t3 x3 w1 w2, "

@@ -82,7 +82,7 @@ def budget_of(order: Order) -> Budget:
 
 
 class Unmodelled(Exception):
-    """A compact plan is wanted: no model makes it, and what is written is judged by its meaning."""
+    """A compact plan or a lean file is wanted: no model makes it, and what is written is judged by its meaning."""
 
 
 def planned(order: Order, text: bytes) -> Tuple[Run, Plan]:
@@ -101,6 +101,8 @@ def planned(order: Order, text: bytes) -> Tuple[Run, Plan]:
 
 def compile_text(order: Order, text: bytes) -> bytes:
     run, plan = planned(order, text)
+    if order.values["plan"] == "lean":  # its gates are written in the best order
+        raise Unmodelled()
     return WRITERS[order.values["format"]](len(run.bits), len(run.outputs), plan, order.values["borrow"])
 
 

@@ -1,4 +1,5 @@
 pub mod CompileLemmas
+pub mod OrderingLemmas
 pub mod PlanLemmas
 pub mod BenchLemmas
 pub mod ArithTextLemmas

@@ -14,11 +14,12 @@ use Rattle.circuit_plans.specs.declared.choice.Plan.{Plan}
 use Rattle.format_parts.specs.Fits.{FitAFile}
 use Rattle.circuit_plans.specs.declared.roles.Start.{Start}
 use Rattle.circuit_plans.specs.Plans.{AddsOutput, BudgetView, LaidView, roles_of, lines_in, start_of}
-use Rattle.mct_circuit.specs.Gates.{AreGatesOn, AreNarrow}
+use Rattle.mct_circuit.specs.Gates.{AreGatesOn, AreNarrow, GateView}
 use Rattle.qasm_format.proofs.MeaningLemmas as qasm
 use Rattle.real_format.proofs.MeaningLemmas as real
 use Rattle.mct_circuit.specs.Sizes.{counts_of}
-use Rattle.circuit_plans.specs.declared.choice.Plan.TheVariants.{Lean}
+use Rattle.circuit_plans.specs.declared.choice.Plan.TheVariants.{Auto, Compact, Eager, Lean, Pebble}
+use Rattle.flip_orders.proofs.ReorderingLemmas.{AreReordered-refl}
 use Rattle.plan_choice.specs.Choices.{IsChosen, IsCompact, IsLean, LeanFits}
 use Rattle.program_commands.specs.Outcomes.{IsCompileFault, IsWritable, file_of}
 use Rattle.program_texts.specs.Outcomes.{IsSettlingFault, IsTextFault}
@@ -36,7 +37,7 @@ use Rattle.command_answers.specs.declared.fault.Fault.TheVariants as faults
 use Rattle.command_answers.specs.declared.fault.Refusal.TheVariants as refusals
 use Rattle.program_texts.specs.Clean.{ComputesOn}
 use Rattle.program_commands.specs.Clean.{MeansCompiledIn}
-use Rattle.program_commands.specs.Compile.{HasFewToffoliGates, HasLeanSize, IsCompiled, LeanRowFits, budget_of, least_lines, row_gates, row_lines}
+use Rattle.program_commands.specs.Compile.{AreWrittenFor, HasFewToffoliGates, HasLeanSize, IsCompiled, LeanRowFits, budget_of, least_lines, row_gates, row_lines}
 use Rattle.program_texts.specs.Settling.{LeavesTape, LeavesSettled, ForTexts, IsSettledWithin}
 use Rattle.program_commands.specs.inside.Plans.{IsCleanPlan, IsPlanOf, IsPlannedFor, IsPlanningFault}
 use Rattle.program_texts.proofs.FormedLemmas.{some_output}
@@ -115,6 +116,14 @@ module _ (order : OrderView) (laid : LaidView) (tape : TapeView) (s : SettledVie
       few_gates = λ lean fit. omega (arith, (lean_plan lean).row_gates m within (row_fits fit), same_gates);
     }
 
+-- gates that are not put in another order are written as they may be
+as_laid : (how : Plan) (gates : List GateView) → AreWrittenFor how gates gates
+as_laid Auto gates = refl
+as_laid Compact gates = AreReordered-refl gates
+as_laid Eager gates = refl
+as_laid Lean gates = AreReordered-refl gates
+as_laid Pebble gates = refl
+
 planned : (order : OrderView) (text : List ℕ) (laid : LaidView) (tape : TapeView) (s : SettledView) (l : LeavesSettled text order.nodes tape)
     → IsSettledWithin tape order.nodes s → IsPlanOf order.plan s (budget_of order) laid
     → IsCleanPlan (start_of order.plan) laid l.left.program (budget_of order)
@@ -142,7 +151,7 @@ planned order text laid tape s l settled plan c =
           laid = laid;
           roles_are = refl;
           lines_are = plan.sum_of;
-          gates_are = refl;
+          gates_are = as_laid order.plan laid.circuit.gates;
           chosen = plan.chosen;
           few_toffoli_gates = few_toffoli_gates order laid tape s settled.of_tape settled.no_larger plan.chosen;
           lean_size =
@@ -266,15 +275,3 @@ planning_stops order tape s (Err fault) settled h = record {
   of_text = λ text left.
       planning_fault order text tape s fault (record { left = left; hold = settled.hold }) settled.of_tape settled.no_larger h;
 }
-
--- ---- the file
-
-pub compiled : {E : Type 0} (order : OrderView) (text : List ℕ) (tape : TapeView) (r : Result LaidView E) → LeavesTape text tape
-    → IfOk r (λ laid. ForTexts tape (λ text. IsPlannedFor order text tape laid)) → IfOk r (λ laid. IsCompiled order text (file_of order.format laid))
-compiled order text tape (Err e) left h = tt
-compiled order text tape (Ok laid) left h = compiled_file order text laid tape (h.of_text text left)
-
-pub may_be_written : {E : Type 0} (order : OrderView) (text : List ℕ) (tape : TapeView) (r : Result LaidView E) → LeavesTape text tape
-    → IfOk r (λ laid. ForTexts tape (λ text. IsPlannedFor order text tape laid)) → IfOk r IsWritable
-may_be_written order text tape (Err e) left h = tt
-may_be_written order text tape (Ok laid) left h = (h.of_text text left).can

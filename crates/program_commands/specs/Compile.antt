@@ -9,7 +9,9 @@ use Rattle.circuit_plans.specs.declared.roles.Roles.{Roles}
 use Rattle.circuit_plans.specs.Plans.{BudgetView, LaidView, lines_in, roles_of, start_of}
 use Rattle.mct_circuit.specs.Gates.{GateView}
 use Rattle.mct_circuit.specs.Sizes.{counts_of}
-use Rattle.circuit_plans.specs.declared.choice.Plan.TheVariants.{Compact, Lean}
+use Rattle.circuit_plans.specs.declared.choice.Plan.{Plan}
+use Rattle.circuit_plans.specs.declared.choice.Plan.TheVariants.{Auto, Compact, Eager, Lean, Pebble}
+use Rattle.flip_orders.specs.Orders.{AreReordered}
 use Rattle.plan_choice.specs.Choices.{HasFewLines, HasFewGates, IsChosen, SomeRowFits}
 use Rattle.revs_tape.specs.Measures.{ands_of, inputs_of, outputs_of, writes_of}
 use Rattle.revs_tape.specs.Tapes.{TapeView}
@@ -54,10 +56,20 @@ pub record HasLeanSize (order : OrderView) (tape : TapeView) (lines gates : ℕ)
   pub few_lines : order.plan ≡ Lean → lines ≤ row_lines tape order
   pub few_gates : order.plan ≡ Lean → LeanRowFits order tape → gates ≤ 2 * row_gates tape
 
--- These lines and gates are those of a plan that the order asks for, of a settled graph of the
--- tape: an eager one within the graph's eager numbers; a pebbling within the numbers of the largest
--- block that fits, which comes without `--plan` only where the eager numbers do not fit; or a plan
--- of its lean graph, or the best of that one and of what planners found, of few Toffoli gates.
+-- The gates of a plan as they are written: under `lean` and `compact` in another order, with the
+-- same line map, no deeper and of no greater Toffoli depth; else as they are.
+abbrev pub AreWrittenFor : Plan → List GateView → List GateView → Type 0
+AreWrittenFor Auto laid gates = gates ≡ laid
+AreWrittenFor Compact laid gates = AreReordered laid gates
+AreWrittenFor Eager laid gates = gates ≡ laid
+AreWrittenFor Lean laid gates = AreReordered laid gates
+AreWrittenFor Pebble laid gates = gates ≡ laid
+
+-- These lines are those of a plan that the order asks for, and the gates are its gates as they are
+-- written. The plan is one of a settled graph of the tape: an eager one within the graph's eager
+-- numbers; a pebbling within the numbers of the largest block that fits, which comes without
+-- `--plan` only where the eager numbers do not fit; or a plan of its lean graph, or the best of that
+-- one and of what planners found, of few Toffoli gates.
 pub record IsPlannedAs (order : OrderView) (tape : TapeView) (roles : Roles)
     (gates : List GateView) : Type 0 where
   pub graph : SettledView
@@ -66,7 +78,7 @@ pub record IsPlannedAs (order : OrderView) (tape : TapeView) (roles : Roles)
   pub laid : LaidView
   pub roles_are : roles ≡ roles_of laid
   pub lines_are : lines_in roles ≡ laid.circuit.lines
-  pub gates_are : gates ≡ laid.circuit.gates
+  pub gates_are : AreWrittenFor order.plan laid.circuit.gates gates
   pub chosen : IsChosen order.plan graph (budget_of order) laid
   pub few_toffoli_gates : HasFewToffoliGates order tape gates
   pub lean_size : HasLeanSize order tape (lines_in roles) (length gates)

@@ -7,6 +7,7 @@ ghost use Rattle.revc_io.specs.Faults.{HasCause};
 ghost use Rattle.revc_io.specs.Passing.{Writes};
 ghost use Rattle.revc_words.specs.Words.{IsWithinLimits, order_of};
 
+use crate::ordering::in_best_order;
 use crate::planning::plan_tape;
 use circuit_plans::Laid;
 use command_answers::Fault;
@@ -35,7 +36,9 @@ pub fn compile(alloc: Global, text: &[u8], order: &Order) -> Result<Laid, Fault>
     ensures err { IfErr result (IsCompileFault (order_of order.now) text.now) }
 {
     let tape = tape_of_text(alloc, text)?;
-    plan_tape(alloc, &tape, order)
+    let laid = plan_tape(alloc, &tape, order)?;
+    let ordered = in_best_order(alloc, laid, order.values.plan)?;
+    Ok(ordered)
 }
 
 /// Writes the file of a clean plan in a format. It takes no memory.

@@ -6,4 +6,5 @@ pub mod arith;
 pub mod bench;
 pub mod compile;
 pub mod generate;
+mod ordering;
 mod planning;

@@ -14,7 +14,7 @@ use Rattle.revs_terms.specs.Runs.{IsTapeOf}
 use Rattle.revs_terms.specs.Views.{ProgramView}
 use Rattle.command_answers.specs.declared.fault.Fault.{Fault}
 use Rattle.command_answers.specs.declared.fault.Fault.TheVariants.{Lines, Gates, Memory}
-use Rattle.program_commands.specs.Compile.{HasCircuit}
+use Rattle.program_commands.specs.Compile.{AreWrittenFor, HasCircuit}
 use Rattle.program_commands.specs.Outcomes.{IsWritable}
 
 -- a plan of a program's settled graph, within a budget
@@ -47,6 +47,12 @@ pub record IsPlannedFor (order : OrderView) (text : List ℕ) (tape : TapeView) 
   pub can : IsWritable laid
   pub sum_of : laid.inputs + laid.outputs + laid.work + laid.borrowed ≡ laid.circuit.lines
   pub on : AreGatesOn laid.circuit.lines laid.circuit.gates
+
+-- the same plan with its gates as they are written
+pub record IsOrderedPlan (how : Plan) (old new : LaidView) : Type 0 where
+  pub roles : roles_of new ≡ roles_of old
+  pub lines : new.circuit.lines ≡ old.circuit.lines
+  pub gates : AreWrittenFor how old.circuit.gates new.circuit.gates
 
 -- why a settled graph has no plan within the budget, or there was no memory left
 abbrev pub IsPlanningFault : Plan → SettledView → BudgetView → Fault → Type 0
