@@ -1,20 +1,13 @@
 // Lines that nodes without products can do without.
+use plan_tools::{Table, Work};
 use span_graphs::{SpanGraph, Turn};
-use span_rows::{Stop, is_set};
-use span_sweeps::{Event, Measures};
-use std::alloc::Global;
+use span_sweeps::Event;
 
 /// Marks the nodes without products that one factor alone has, and that took a line of their own
 /// nonetheless.
-pub fn lone_copies(alloc: Global, graph: &SpanGraph, events: &[Event]) -> Result<Vec<bool>, Stop> {
-    let lone = graph.lone_nodes(alloc)?;
-    let mut marks = vec![in alloc; false; lone.len()]?;
-    mark_fresh(&mut marks, &lone, events);
-    Ok(marks)
-}
-
-// Marks those of the lone nodes that took a line of their own.
-fn mark_fresh(marks: &mut [bool], lone: &[bool], events: &[Event]) {
+pub fn lone_copies(work: &mut Work, graph: &SpanGraph, events: &[Event]) -> Table<bool> {
+    let lone = graph.lone_nodes(work);
+    let mut marks = Table::new(work, graph.nodes.len(), false);
     for event in events {
         if let Event::On {
             toggle,
@@ -22,30 +15,20 @@ fn mark_fresh(marks: &mut [bool], lone: &[bool], events: &[Event]) {
             ..
         } = event
         {
-            let place = toggle.node as usize;
-            if place < marks.len() {
-                marks[place] = is_set(lone, toggle.node);
-            }
+            marks.set(toggle.node, lone.get(toggle.node));
         }
     }
+    marks
 }
 
 /// The turns without those by which marked nodes go off: there is nothing of them.
-pub fn turns_without(alloc: Global, turns: &[Turn], marks: &[bool]) -> Result<Vec<Turn>, Stop> {
-    let mut rest = Vec::new(alloc);
+pub fn turns_without(work: &mut Work, turns: &[Turn], marks: &Table<bool>) -> Vec<Turn> {
+    let mut rest = Vec::new(work.alloc);
     for turn in turns {
         match turn {
-            Turn::Off(place) if is_set(marks, *place) => {}
-            _ => rest.push(*turn)?,
+            Turn::Off(place) if marks.get(*place) => {}
+            _ => work.push(&mut rest, *turn),
         }
     }
-    Ok(rest)
-}
-
-/// Whether it takes no more of anything.
-pub fn is_no_worse(some: Measures, others: Measures) -> bool {
-    let gates = some.toffoli.saturating_add(some.cx);
-    some.work <= others.work
-        && some.toffoli <= others.toffoli
-        && gates <= others.toffoli.saturating_add(others.cx)
+    rest
 }
