@@ -5,14 +5,12 @@
 pub enum Plan {
     /// The eager plan, and then pebbling.
     Auto,
-    /// Over the lean graph, the best of the plan of `Lean` and of those that planners find: the one
-    /// of fewest Toffoli gates, of as many that of the least product of lines and gates, then that
-    /// of the fewest lines. Its output lines have to start at 0.
+    /// Over the lean graph, as `Lean`, with more planners: its output lines have to start at 0.
     Compact,
     /// The eager plan alone.
     Eager,
-    /// Over the lean graph, the better of the ready plan and pebbling: the one of fewer Toffoli
-    /// gates, of as many that of fewer lines, then that of fewer gates, and else the ready one.
+    /// Over the lean graph, the best of the plan of its row, which has a line for each node, and of
+    /// those that planners find: the one of the least `Size`.
     Lean,
     /// Pebbling, with blocks from the least power of two that has all nodes down by halves to 1.
     Pebble,

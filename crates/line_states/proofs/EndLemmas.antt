@@ -18,7 +18,7 @@ use Rattle.bit_sums.specs.Sums.{SumView, xor_by}
 use Rattle.circuit_plans.specs.declared.plan.TheConstants.{MOST_LINES}
 use Rattle.circuit_plans.specs.declared.roles.Start.{Start}
 use Rattle.circuit_plans.specs.declared.roles.Start.TheVariants.{Any, Zero}
-use Rattle.circuit_plans.specs.Plans.{AddsOutput, AddsOutputs, BudgetView, MayHold, added}
+use Rattle.circuit_plans.specs.Plans.{AddsOutput, BudgetView, MayHold, added}
 use Rattle.sum_graph.specs.Graphs.{first_work}
 use Rattle.circuit_plans.specs.Plans.{roles_of_plan}
 use Rattle.circuit_plans.specs.Plans.{HasPortLines, IsNarrowPlan}

@@ -1,4 +1,3 @@
-pub mod CompactLemmas
 pub mod LeanLemmas
 pub mod SearchLemmas
 pub mod SplitLemmas

@@ -17,7 +17,7 @@ use Rattle.eager_cleanup.specs.Eager.{IsEagerFault, ports_of}
 use Rattle.revs_tape.specs.Levels.{IsLevels}
 use Rattle.circuit_plans.specs.declared.choice.Plan.TheVariants.{Auto, Compact, Eager, Lean, Pebble}
 use Rattle.circuit_plans.specs.declared.choice.Plan.{Plan}
-use Rattle.held_nodes.specs.Plans.{wanted_lines}
+use Rattle.circuit_plans.specs.Plans.{wanted_lines}
 use Rattle.circuit_plans.specs.declared.roles.Start.TheVariants.{Any}
 use Rattle.plan_choice.specs.Choices.{EagerFits, Fit, FineFits, GatesAreFew, IsBelowFineLines, IsChoiceFault, IsLaidFor}
 use Rattle.plan_choice.specs.Choices.{IsPebbling, LinesAreFew, NoEagerFits, NoLargerFits, PlainFits, PebblingFits}

@@ -21,7 +21,7 @@ use Rattle.sum_graph.specs.Graphs.{sum_outputs}
 use Rattle.sum_graph.specs.Plain.{plain_of, plain_output, plain_sum}
 use Rattle.sum_graph.proofs.PlainLemmas.{plain_graphs_are_alike}
 use Rattle.sum_toggles.specs.Toggles.{toggle_weight}
-use Rattle.held_nodes.specs.Held.{first_work}
+use Rattle.sum_graph.specs.Graphs.{first_work}
 use Rattle.bennett_pebbling.specs.Pebbling as sums
 use Rattle.bennett_pebbling.proofs.OutputLemmas.{light_weight}
 use Rattle.bennett_pebbling.specs.Blocks.{AreWithinBlock, InEachRow, IsHalved}
@@ -36,8 +36,9 @@ use Rattle.circuit_plans.specs.declared.roles.Start.TheVariants.{Any}
 use Rattle.circuit_plans.specs.Plans.{AddsOutputs, BudgetView, CleanCircuitsBorrow, LaidView, PlannedView, added, lines_in, with_borrowed}
 use Rattle.gate_split.specs.Split.{IsSplitList, PassesLimit}
 use Rattle.gate_split.proofs.SplitListLemmas.{one_split}
-use Rattle.held_nodes.specs.Moves.{roles_of_plan, weight_in}
-use Rattle.held_nodes.specs.Plans.{HasPortLines, HasPorts, IsInBudget, wanted_lines}
+use Rattle.circuit_plans.specs.Plans.{roles_of_plan}
+use Rattle.mct_circuit.specs.Sizes.{weight_in}
+use Rattle.circuit_plans.specs.Plans.{HasPortLines, HasPorts, IsInBudget, wanted_lines}
 use Rattle.mct_circuit.specs.Gates.{AreGatesOn, AreNarrow, CircuitView, GateView, flip_of, line_map, positive}
 use Rattle.mct_circuit.specs.Sizes.{weight_of}
 use Rattle.mct_circuit.proofs.WeightLemmas.{length-le-weight}
@@ -129,10 +130,16 @@ laid_blocks s block b p laid within is =
       plain = λ covers. let row = within.plain covers in (omega (arith, row.0, size), omega (arith, row.1, same));
     }
 
+-- a plan of the plain graph has the inputs and outputs of the settled one
+pub plain_ports : (s : SettledView) (p : PlannedView) → HasPorts s.inputs (length (plain_of s).outputs) p → HasPorts s.inputs (length s.outputs) p
+plain_ports s p ports =
+    let same : length (map plain_output s.outputs) ≡ length s.outputs = length-map s.outputs plain_output in
+    record { inputs = ports.inputs; outputs = ports.outputs ∙ same; lines = omega (arith, ports.lines, same) }
+
 -- a plan within the budget has the lines of the inputs and outputs
-pub port_lines : (s : SettledView) (b : BudgetView) (p : PlannedView) → HasPorts (plain_of s) p → p.circuit.lines + b.borrow ≤ b.lines
+pub port_lines : (s : SettledView) (b : BudgetView) (p : PlannedView) → HasPorts s.inputs (length s.outputs) p → p.circuit.lines + b.borrow ≤ b.lines
     → HasPortLines (ports_of s) b
-port_lines s b p ports within = omega (arith, ports.lines, within, length-map s.outputs plain_output)
+port_lines s b p ports within = omega (arith, ports.lines, within)
 
 -- ---- the laid plan
 
@@ -281,11 +288,11 @@ pub plain_clean : (s : SettledView) (roles : Roles) (gates : List GateView) → 
     → AddsOutputs Any roles gates (settled_outputs s)
 plain_clean s roles gates = same_outputs Any roles gates (sum_outputs (plain_of s)) (settled_outputs s) (plain_graphs_are_alike s).outputs
 
-pub laid_for : (s : SettledView) (b : BudgetView) (p : PlannedView) (laid : LaidView) → HasPorts (plain_of s) p
+pub laid_for : (s : SettledView) (b : BudgetView) (p : PlannedView) (laid : LaidView) → HasPorts s.inputs (length s.outputs) p
     → AddsOutputs Any (roles_of_plan p) p.circuit.gates (settled_outputs s) → IsLaidOf p b laid → IsLaidFor Any s b laid
 laid_for s b p laid ports clean is = record {
   inputs = is.inputs ∙ ports.inputs;
-  outputs = is.outputs ∙ ports.outputs ∙ length-map s.outputs plain_output;
+  outputs = is.outputs ∙ ports.outputs;
   borrowed = is.borrowed;
   lines = is.lines;
   gates = is.gates;

@@ -1,5 +1,5 @@
 -- Which budgets are enough for a choice of plans, and what is laid.
-use Rattle.std.specs.Prelude.{◌≡◌, ◌≢◌, Result, Err, IfErr, IfOk, ℕ, suc, ◌+◌, ◌*◌, ◌^◌, ◌<◌, ◌≤◌, ◌⊎◌, length}
+use Rattle.std.specs.Prelude.{◌≡◌, ℕ, suc, ◌+◌, ◌*◌, ◌^◌, ◌<◌, ◌≤◌, ◌⊎◌, length}
 use Rattle.revs_tape.specs.Levels.{IsLevels}
 use Rattle.claim_check.specs.Budgets.{Measures, plain_lines, plain_gates, fine_lines, fine_gates}
 use Rattle.claim_check.specs.Budgets.{block_lines, block_gates, eager_lines, eager_gates}
@@ -10,13 +10,13 @@ use Rattle.circuit_plans.specs.declared.plan.PlanFault.{PlanFault}
 use Rattle.circuit_plans.specs.declared.plan.PlanFault.TheVariants.{Lines, Gates, Memory}
 use Rattle.circuit_plans.specs.declared.roles.Start.{Start}
 use Rattle.circuit_plans.specs.Plans.{AddsOutputs, BudgetView, LaidView, roles_of}
-use Rattle.held_nodes.specs.Held.{first_work}
-use Rattle.held_nodes.specs.Plans.{HasPortLines, wanted_lines}
+use Rattle.sum_graph.specs.Graphs.{first_work}
+use Rattle.circuit_plans.specs.Plans.{HasPortLines, wanted_lines}
 use Rattle.mct_circuit.specs.Gates.{AreNarrow}
 use Rattle.eager_cleanup.specs.Eager.{AreWithinEager, ports_of}
 use Rattle.bennett_pebbling.specs.Blocks.{AreWithinBlock}
 use Rattle.plan_choice.specs.Blocks.{extent_of}
-use Rattle.plan_choice.specs.Lean.{CoveringFits, IsAsCompact, IsCovering, IsThrifty}
+use Rattle.plan_choice.specs.Lean.{CoveringFits, IsCovering, IsThrifty}
 use Rattle.sum_graph.specs.Graphs.{IsLeanOf, SumGraphView}
 use Rattle.circuit_plans.specs.declared.choice.Plan.{Plan}
 use Rattle.circuit_plans.specs.declared.choice.Plan.TheVariants.{Auto, Compact, Eager, Lean, Pebble}
@@ -159,18 +159,6 @@ pub record IsLean (s : SettledView) (b : BudgetView) (laid : LaidView) : Type 0 
       → length laid.circuit.gates ≤ 2 * lean_gates m
   pub few : (m : Measures) → IsWithin s m → LeanFits b m → IsThrifty s laid
 
--- The best of the lean plan and of what planners found, of narrow gates: it is no worse than the
--- lean plan where that fits, and where the lean row fits, it has few Toffoli gates for the settled
--- graph.
-pub record IsCompact (s : SettledView) (b : BudgetView) (laid : LaidView) : Type 0 where
-  pub lean : Result LaidView PlanFault
-  pub is_lean : IfOk lean (IsLean s b)
-  pub refused : IfErr lean (IsChoiceFault Lean s b)
-  pub enough : lean ≢ Err (Memory _)
-  pub best : IfOk lean (IsAsCompact laid)
-  pub narrow : AreNarrow laid.circuit.gates
-  pub few : (m : Measures) → IsWithin s m → LeanFits b m → IsThrifty s laid
-
 -- the eager numbers do not both fit
 pub record NoEagerFits (s : SettledView) (b : BudgetView) : Type 0 where
   pub none : (m : Measures) → IsWithin s m → ¬ EagerFits b m
@@ -179,7 +167,7 @@ pub record NoEagerFits (s : SettledView) (b : BudgetView) : Type 0 where
 -- it alone is allowed
 abbrev pub IsChosen : Plan → SettledView → BudgetView → LaidView → Type 0
 IsChosen Auto s b laid = IsEager s b laid ⊎ (NoEagerFits s b × IsPebbling s b laid)
-IsChosen Compact s b laid = IsCompact s b laid
+IsChosen Compact s b laid = IsLean s b laid
 IsChosen Eager s b laid = IsEager s b laid
 IsChosen Lean s b laid = IsLean s b laid
 IsChosen Pebble s b laid = IsPebbling s b laid

@@ -2,16 +2,15 @@
 ghost use Rattle.std.specs.Prelude.{◌≡◌, ◌+◌, ◌≤◌, IfOk, IfErr};
 ghost use Rattle.eager_cleanup.specs.Eager.{ports_of};
 ghost use Rattle.sum_graph.specs.Plain.{plain_of};
-ghost use Rattle.plan_choice.specs.Choices.{IsChoiceFault, IsChosen, IsLaidFor};
-ghost use Rattle.circuit_plans.specs.declared.choice.Plan.TheVariants.{Auto};
+ghost use Rattle.plan_choice.specs.Choices.{IsChoiceFault, IsChosen, IsLaidFor, IsLean};
+ghost use Rattle.circuit_plans.specs.declared.choice.Plan.TheVariants.{Auto, Compact, Lean};
 ghost use Rattle.circuit_plans.specs.declared.roles.Start.TheVariants.{Any};
-ghost use Rattle.circuit_plans.specs.Plans.{start_of};
+ghost use Rattle.circuit_plans.specs.Plans.{HasPortLines, start_of};
 
-use crate::compact::lay_compact;
 use crate::laying::{Tried, is_refused, lay_eager};
 use crate::lean::lay_lean;
 use crate::search::lay_pebbling;
-use circuit_plans::{Budget, Plan, Laid, PlanFault};
+use circuit_plans::{Budget, Laid, Plan, PlanFault, Start};
 use claim_check::Settled;
 use std::alloc::Global;
 use sum_graph::SumGraph;
@@ -20,20 +19,21 @@ use sum_graph::SumGraph;
 /// ones. The circuit adds the outputs to whatever the output lines hold, and takes each input,
 /// zeros on the work lines and anything on the borrowed lines to the same. An eager plan is within
 /// the eager numbers, a pebbling within those of its block; it is that of the largest block that
-/// fits, and `Auto` takes one only where the eager numbers do not fit. `Lean` takes a plan of the
-/// lean graph, on at most a line for each input, output, node and borrowed bit, and `Compact`,
-/// under which the output lines start at 0, the best of that one and of what planners find there;
-/// where the lean row fits, these have at most two Toffoli gates for each AND of the graph, and one
-/// for each that goes to one output alone.
+/// fits, and `Auto` takes one only where the eager numbers do not fit. `Lean` and `Compact`, under
+/// which the output lines start at 0, take the best plan of the lean graph: that of its row, or one
+/// that a planner finds, on at most a line for each input, output, node and borrowed bit. Where the
+/// lean row fits, it has at most two Toffoli gates for each AND of the graph, one for each that
+/// goes to one output alone, and at most twice the gates of the row.
 ///
 /// # Errors
 ///
-/// The refusal of the last plan that was tried; want of memory ends the search. Never where both
-/// numbers of a row that `how` allows fit. `Lines` and `Gates` come only where the budget has fewer
-/// of them than the fine number of the graph, for `Eager` than its eager number; for `Lean` and
-/// `Compact`, `Lines` only where it does not have a line for each node, and `Gates` only where the
-/// row does not fit, be it in lines or in gates. `need` is the number of inputs, outputs and
-/// borrowed lines where that passes the budget, and one line more than the budget otherwise.
+/// The refusal of the last plan that was tried, under `Lean` and `Compact` that of the row; want of
+/// memory ends the search. Never where both numbers of a row that `how` allows fit. `Lines` and
+/// `Gates` come only where the budget has fewer of them than the fine number of the graph, for
+/// `Eager` than its eager number; for `Lean` and `Compact`, `Lines` only where it does not have a
+/// line for each node, and `Gates` only where the row does not fit, be it in lines or in gates.
+/// `need` is the number of inputs, outputs and borrowed lines where that passes the budget, and one
+/// line more than the budget otherwise.
 pub fn choose(alloc: Global, graph: &Settled, budget: &Budget, how: Plan) -> Result<Laid, PlanFault>
     ensures ok { IfOk result (IsLaidFor (start_of how) graph.now budget.now) }
     ensures chosen { IfOk result (IsChosen how graph.now budget.now) }
@@ -55,9 +55,9 @@ fn chosen(alloc: Global, graph: &Settled, budget: &Budget, how: Plan) -> Tried
 {
     match how {
         Plan::Auto => eager_or_pebbling(alloc, graph, &SumGraph::plain(alloc, graph)?, budget),
-        Plan::Compact => lay_compact(alloc, graph, &SumGraph::lean(alloc, graph)?, budget),
+        Plan::Compact => lean_plan(alloc, graph, budget, Start::Zero),
         Plan::Eager => lay_eager(alloc, graph, &SumGraph::plain(alloc, graph)?, budget),
-        Plan::Lean => lay_lean(alloc, graph, &SumGraph::lean(alloc, graph)?, budget),
+        Plan::Lean => lean_plan(alloc, graph, budget, Start::Any),
         Plan::Pebble => lay_pebbling(alloc, graph, &SumGraph::plain(alloc, graph)?, budget),
     }
 }
@@ -75,4 +75,16 @@ fn eager_or_pebbling(alloc: Global, graph: &Settled, plain: &SumGraph, budget: &
     } else {
         tried
     }
+}
+
+// The best plan of the lean graph.
+fn lean_plan(alloc: Global, graph: &Settled, budget: &Budget, start: Start) -> Tried
+    requires { HasPortLines (ports_of graph.now) budget.now }
+    ensures ok { IfOk result (IsLaidFor start graph.now budget.now) }
+    ensures lean { IfOk result (IsLean graph.now budget.now) }
+    ensures refused { IfErr result (IsChoiceFault Lean graph.now budget.now) }
+    ensures refused_too { IfErr result (IsChoiceFault Compact graph.now budget.now) }
+{
+    let lean = SumGraph::lean(alloc, graph)?;
+    lay_lean(alloc, &lean, budget, start)
 }

@@ -2,7 +2,7 @@
 ghost use Rattle.std.specs.Prelude.{◌≡◌, ◌+◌, ◌≤◌, IfOk, IfErr};
 ghost use Rattle.std.specs.List.{AllByRecursion};
 ghost use Rattle.circuit_plans.specs.declared.plan.PlanFault.TheVariants.{Memory};
-ghost use Rattle.held_nodes.specs.Plans.{IsInBudget};
+ghost use Rattle.circuit_plans.specs.Plans.{IsInBudget};
 ghost use Rattle.mct_circuit.specs.Gates.{AreNarrow};
 ghost use Rattle.circuit_plans.specs.declared.roles.Start.TheVariants.{Any};
 ghost use Rattle.plan_choice.specs.Blocks.{IsPebblingFault};
@@ -13,9 +13,9 @@ ghost use Rattle.plan_choice.specs.Choices.{IsEager, IsLaidFor};
 ghost use Rattle.plan_choice.specs.inside.Tried.{IsLaidAsIs, IsLaidInBlocks, IsLaidOf};
 ghost use Rattle.plan_choice.specs.inside.Tried.{IsSplitFault, is_refusal};
 
-use circuit_plans::{Budget, Laid, PlanFault, Planned, clean_circuits_borrow};
+use circuit_plans::{Budget, Laid, PlanFault, Planned};
 use claim_check::Settled;
-use gate_split::{SplitFault, narrow_stay, roomy_flips_are_split, split_owned};
+use gate_split::{SplitFault, split_owned};
 use std::alloc::Global;
 use sum_graph::SumGraph;
 
@@ -29,8 +29,6 @@ pub fn lay_eager(alloc: Global, graph: &Settled, plain: &SumGraph, budget: &Budg
     ensures eager { IfOk result (IsEager graph.now budget.now) }
     ensures refused { IfErr result (IsEagerFault graph.now budget.now) }
 {
-    // This call says into how many gates flips with room are split.
-    roomy_flips_are_split();
     let planned = eager_cleanup::plan(alloc, graph, plain, budget)?;
     lay(alloc, planned, budget)
 }
@@ -60,8 +58,6 @@ pub fn lay_narrow(alloc: Global, planned: Planned, budget: &Budget) -> Tried
     ensures ok { IfOk result (IsLaidAsIs planned budget.now) }
     ensures memory { IfErr result (λ fault. fault ≡ Memory _) }
 {
-    // This call says that narrow gates stay as they are.
-    narrow_stay();
     // This call says that the gates are on the circuit's lines.
     let _ = planned.circuit().lines();
     lay(alloc, planned, budget)
@@ -82,10 +78,7 @@ fn lay(alloc: Global, planned: Planned, budget: &Budget) -> Tried
     ensures ok { IfOk result (IsLaidOf planned budget.now) }
     ensures refused { IfErr result (IsSplitFault planned.circuit.gates budget.now) }
 {
-    // These calls say that no flip wants an idle line, that the plan is clean beside borrowed
-    // lines, and that the budget has few lines.
-    roomy_flips_are_split();
-    clean_circuits_borrow();
+    // This call says that the budget has few lines.
     let _ = budget.lines();
     let lines = planned.circuit().lines() + budget.borrow();
     let (inputs, outputs, work) = (planned.inputs(), planned.outputs(), planned.work());

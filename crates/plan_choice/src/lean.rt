@@ -1,121 +1,153 @@
-// Plans of a lean graph, laid: narrow gates stay as they are.
-ghost use Rattle.std.specs.Prelude.{◌≡◌, ◌≤◌, IfOk, IfErr, if◌then◌else◌};
-ghost use Rattle.bennett_pebbling.specs.Pebbling.{IsPebblingFault};
-ghost use Rattle.circuit_plans.specs.declared.choice.Plan.TheVariants.{Lean};
-ghost use Rattle.circuit_plans.specs.declared.roles.Start.TheVariants.{Any};
-ghost use Rattle.plan_choice.specs.Choices.{IsChoiceFault, IsLaidFor, IsLean};
-ghost use Rattle.plan_choice.specs.Lean.{IsLeanFault};
-ghost use Rattle.plan_choice.specs.inside.Tried.{IsLaidBlock, IsLaidLean, IsLaidReady, best_of};
-ghost use Rattle.plan_choice.specs.inside.Tried.{better_of, is_better};
-ghost use Rattle.ready_cleanup.specs.Ready.{IsReadyFault};
-ghost use Rattle.sum_graph.specs.Graphs.{IsLeanOf};
+// The plans of a lean graph, laid: that of its row, and the best of those that planners find.
+ghost use Rattle.std.specs.Prelude.{◌≡◌, ◌⊎◌, length, IfErr, IfOk, IfSome, IsTrue, Ok};
+ghost use Rattle.circuit_plans.specs.Plans.{HasPortLines, IsNarrowPlan};
+ghost use Rattle.plan_choice.specs.inside.Tried.{IsLaidLean, IsLeanFault, IsMost, IsRow, IsWithin};
+ghost use Rattle.sum_graph.specs.Graphs.{first_work, sum_outputs};
 
-use crate::laying::{Tried, is_refused, lay_narrow};
-use circuit_plans::{Budget, Laid, PlanFault};
-use claim_check::Settled;
+use crate::laying::{Tried, lay_narrow};
+use crate::scripts::follow_moves;
+use circuit_plans::{Budget, Laid, PlanFault, Planned, Size, Start};
+use plan_tools::Limits;
 use std::alloc::Global;
 use sum_graph::SumGraph;
 
-// The ready plan of a lean graph, laid.
-pub fn lay_ready(alloc: Global, graph: &Settled, lean: &SumGraph, budget: &Budget) -> Tried
-    requires lean { IsLeanOf graph.now lean.now }
-    ensures ok { IfOk result (IsLaidReady graph.now lean.now budget.now) }
-    ensures refused { IfErr result (IsReadyFault lean.now budget.now) }
+// The best plan of a lean graph: that of its row, or one that a planner finds, where the output
+// lines may hold what `start` says. To add a planner is a line here.
+pub fn lay_lean(alloc: Global, lean: &SumGraph, budget: &Budget, start: Start) -> Tried
+    requires { HasPortLines (first_work lean.now) budget.now }
+    ensures ok { IfOk result (IsLaidLean start lean.now budget.now) }
+    ensures refused { IfErr result (IsLeanFault lean.now budget.now) }
 {
-    let planned = ready_cleanup::plan(alloc, lean, budget)?;
-    lay_narrow(alloc, planned, budget)
+    let row = lay_row(alloc, lean, budget);
+    let most = most_of(lean, budget, &row);
+    let limits = limits_of(budget);
+    let homes = home_plans::plan(alloc, lean, limits, start == Start::Zero);
+    let found = follow_moves(alloc, lean, budget, start, homes)?;
+    let best = or_better(alloc, lean, budget, start, most, row, found);
+    if start == Start::Any {
+        return best;
+    }
+    let spans = span_plans::plan(alloc, lean, limits);
+    let found = follow_moves(alloc, lean, budget, start, spans)?;
+    or_better(alloc, lean, budget, start, most, best, found)
 }
 
-// The pebbling plan of a lean graph down to blocks of `block` nodes, laid.
-pub fn lay_lean_blocks(
-    alloc: Global,
-    graph: &Settled,
-    lean: &SumGraph,
-    block: u32,
-    budget: &Budget,
-) -> Tried
-    requires some { 1 ≤ block }
-    requires lean { IsLeanOf graph.now lean.now }
-    ensures ok { IfOk result (IsLaidBlock graph.now lean.now block budget.now) }
-    ensures refused { IfErr result (IsPebblingFault lean.now block budget.now) }
+// The budget as planners take it.
+fn limits_of(budget: &Budget) -> Limits {
+    Limits {
+        lines: budget.lines(),
+        gates: budget.gates(),
+        borrow: budget.borrow(),
+    }
+}
+
+// ---- the row
+
+// The plan of the row, laid: one block of all nodes, each on a line of its own and toggled twice.
+fn lay_row(alloc: Global, lean: &SumGraph, budget: &Budget) -> Tried
+    ensures ok { IfOk result (IsRow lean.now budget.now) }
+    ensures refused { IfErr result (IsLeanFault lean.now budget.now) }
 {
+    let block = lean.nodes() + 1;
     let planned = bennett_pebbling::plan(alloc, lean, block, budget)?;
     lay_narrow(alloc, planned, budget)
 }
 
-// The first pebbling plan of a lean graph that fits the budget, of blocks from the least power of
-// two that has all nodes down by halves to 1.
-pub fn lay_lean_pebbling(alloc: Global, graph: &Settled, lean: &SumGraph, budget: &Budget) -> Tried
-    requires lean { IsLeanOf graph.now lean.now }
-    ensures ok { IfOk result (IsLaidLean graph.now lean.now budget.now) }
-    ensures refused { IfErr result (IsLeanFault lean.now 1 budget.now) }
-{
-    let mut block = lean.nodes().next_power_of_two();
-    let mut tried = lay_lean_blocks(alloc, graph, lean, block, budget);
-    'halving: while block > 1 && is_refused(&tried) {
-        block /= 2;
-        tried = lay_lean_blocks(alloc, graph, lean, block, budget);
-    }
-    tried
+// What plans beside that of the row may have at most.
+#[derive(Clone, Copy)]
+pub struct Most {
+    lines: u32,
+    toffoli: u64,
+    gates: u64,
 }
 
-// The better plan of a lean graph: the ready one or the pebbling, whichever fits.
-pub fn lay_lean(alloc: Global, graph: &Settled, lean: &SumGraph, budget: &Budget) -> Tried
-    requires lean { IsLeanOf graph.now lean.now }
-    ensures ok { IfOk result (IsLaidFor Any graph.now budget.now) }
-    ensures lean { IfOk result (IsLean graph.now budget.now) }
-    ensures refused { IfErr result (IsChoiceFault Lean graph.now budget.now) }
+// The lines of the row, and where its plan was laid, its Toffoli gates and twice its gates; nothing
+// where memory was wanting.
+fn most_of(lean: &SumGraph, budget: &Budget, row: &Tried) -> Most
+    requires ok { IfOk row.now (IsRow lean.now budget.now) }
+    requires refused { IfErr row.now (IsLeanFault lean.now budget.now) }
+    ensures { IsMost lean.now budget.now result }
 {
-    let ready = lay_ready(alloc, graph, lean, budget);
-    let pebbling = lay_lean_pebbling(alloc, graph, lean, budget);
-    best_of(ready, pebbling)
-}
-
-// The better plan where both fit, and the one that fits where one does; else the refusal of the
-// second.
-fn best_of(ready: Tried, pebbling: Tried) -> Tried
-    ensures { result ≡ best_of ready pebbling }
-{
-    match ready {
-        Ok(ready) => better_of(ready, pebbling),
-        Err(PlanFault::Memory(memory)) => Err(PlanFault::Memory(memory)),
-        Err(_) => pebbling,
+    let limit = budget.gates();
+    let ports = lean.inputs() + lean.outputs().len() as u32;
+    let lines = ports + lean.nodes() + budget.borrow();
+    match row {
+        Ok(laid) => Most {
+            lines,
+            toffoli: laid.circuit().counts().ccx,
+            gates: 2 * laid.circuit().len().min(limit),
+        },
+        Err(PlanFault::Memory(_)) => Most {
+            lines,
+            toffoli: 0,
+            gates: 0,
+        },
+        Err(PlanFault::Lines { .. } | PlanFault::Gates) => Most {
+            lines,
+            toffoli: limit,
+            gates: limit,
+        },
     }
 }
 
-// The second plan where it fits and is better, else the first.
-fn better_of(ready: Laid, pebbling: Tried) -> Tried
-    ensures { result ≡ better_of ready pebbling }
+fn is_within(most: Most, laid: &Laid) -> bool
+    ensures { IsTrue result → IsWithin most laid.now }
 {
-    match pebbling {
-        Ok(pebbling) => Ok(better(ready, pebbling)),
-        Err(PlanFault::Memory(memory)) => Err(PlanFault::Memory(memory)),
-        Err(_) => Ok(ready),
-    }
+    let circuit = laid.circuit();
+    circuit.lines() <= most.lines
+        && circuit.counts().ccx <= most.toffoli
+        && circuit.len() <= most.gates
 }
 
-fn better(ready: Laid, pebbling: Laid) -> Laid
-    ensures { result ≡ if is_better pebbling ready then pebbling else ready }
+// ---- the better of two plans
+
+// The better of what was tried and of a plan that was found, where this one is within the most.
+fn or_better(
+    alloc: Global,
+    lean: &SumGraph,
+    budget: &Budget,
+    start: Start,
+    most: Most,
+    tried: Tried,
+    found: Option<Planned>,
+) -> Tried
+    requires most { IsMost lean.now budget.now most }
+    requires ok { IfOk tried (IsLaidLean start lean.now budget.now) }
+    requires refused { IfErr tried (IsLeanFault lean.now budget.now) }
+    requires found { IfSome found (IsNarrowPlan start lean.now.inputs (length lean.now.outputs)
+        (sum_outputs lean.now) budget.now) }
+    ensures ok { IfOk result (IsLaidLean start lean.now budget.now) }
+    ensures refused { IfErr result (IsLeanFault lean.now budget.now) }
 {
-    if is_better(&pebbling, &ready) {
-        pebbling
+    let Some(planned) = found else {
+        return tried;
+    };
+    let laid = lay_narrow(alloc, planned, budget)?;
+    if is_within(most, &laid) {
+        better_of(tried, laid)
     } else {
-        ready
+        tried
     }
 }
 
-// Whether a plan has fewer flips under two lines; as many and fewer lines; or as many of both and
-// fewer gates.
-fn is_better(p: &Laid, q: &Laid) -> bool
-    ensures { result ≡ is_better p.now q.now }
+// The plan that was found where it is better than the one that was tried, or that was refused; want
+// of memory passes on.
+fn better_of(tried: Tried, found: Laid) -> Tried
+    ensures { (result ≡ tried) ⊎ (result ≡ Ok found) }
 {
-    let (a, b) = (p.circuit().counts().ccx, q.circuit().counts().ccx);
-    if a != b {
-        return a < b;
+    match tried {
+        Ok(laid) => Ok(better(laid, found)),
+        Err(PlanFault::Memory(memory)) => Err(PlanFault::Memory(memory)),
+        Err(_) => Ok(found),
     }
-    let (a, b) = (p.circuit().lines(), q.circuit().lines());
-    if a != b {
-        return a < b;
+}
+
+fn better(laid: Laid, found: Laid) -> Laid
+    ensures { (result ≡ laid) ⊎ (result ≡ found) }
+{
+    if Size::of(found.circuit()) < Size::of(laid.circuit()) {
+        found
+    } else {
+        laid
     }
-    p.circuit().len() < q.circuit().len()
 }

@@ -2,9 +2,9 @@
 #![tactic(auto)]
 
 mod choosing;
-mod compact;
 mod laying;
 mod lean;
+mod scripts;
 mod search;
 
 pub use choosing::choose;

@@ -1,25 +1,22 @@
--- What a plan that was tried says: of its split, of one block, and of all blocks down to one.
-use Rattle.std.specs.Prelude.{◌≡◌, ◌≢◌, IfErr, IfOk, ℕ, ◌+◌, ◌<◌, ◌≤◌, ◌==◌, nat_lt, if◌then◌else◌, Bool, true, false, ⊤, Result, Ok, Err, List, length, sum_by}
+-- What a plan that was tried says: of its split, of one block, of all blocks down to one, and of a
+-- lean graph.
+use Rattle.std.specs.Prelude.{◌≡◌, ℕ, ◌+◌, ◌*◌, ◌<◌, ◌≤◌, Bool, true, false, ⊤, Result, Ok, Err, List, length, sum_by}
 use Rattle.bennett_pebbling.specs.Blocks.{AreWithinBlock}
-use Rattle.plan_choice.specs.Blocks.{IsPebblingFault, extent_of}
-use Rattle.claim_check.specs.Settled.{SettledView}
+use Rattle.bennett_pebbling.specs.Pebbling.{HasNoLineEach, plain_weight}
 use Rattle.circuit_plans.specs.declared.plan.PlanFault.{PlanFault}
 use Rattle.circuit_plans.specs.declared.plan.PlanFault.TheVariants.{Lines, Gates, Memory}
-use Rattle.gate_split.specs.Costs.{most_gates}
 use Rattle.circuit_plans.specs.declared.roles.Start.{Start}
-use Rattle.circuit_plans.specs.declared.roles.Start.TheVariants.{Any, Zero}
-use Rattle.circuit_plans.specs.Plans.{AddsOutputs, BudgetView, PlannedView, LaidView, roles_of}
+use Rattle.circuit_plans.specs.declared.roles.Start.TheVariants.{Any}
+use Rattle.circuit_plans.specs.Plans.{AddsOutputs, BudgetView, HasPortLines, IsNarrowPlan, PlannedView, LaidView, roles_of, roles_of_plan, wanted_lines}
+use Rattle.claim_check.specs.Settled.{SettledView}
+use Rattle.gate_split.specs.Costs.{most_gates}
 use Rattle.gate_split.specs.Split.{IsSplitList}
-use Rattle.held_nodes.specs.Held.{first_work}
-use Rattle.held_nodes.specs.Moves.{roles_of_plan}
-use Rattle.mct_circuit.specs.Gates.{AreNarrow, GateView}
-use Rattle.eager_cleanup.specs.Eager.{ports_of}
-use Rattle.held_nodes.specs.Plans.{HasPortLines}
-use Rattle.circuit_plans.specs.declared.choice.Plan.TheVariants.{Lean}
-use Rattle.plan_choice.specs.Choices.{IsChoiceFault, IsLaidFor, IsLean, NoLargerFits}
-use Rattle.plan_choice.specs.Lean.{CoveringFits, IsAsCompact, IsCovering, area, toffoli}
-use Rattle.ready_cleanup.specs.Ready.{ready_gates}
-use Rattle.sum_graph.specs.Graphs.{SumGraphView}
+use Rattle.mct_circuit.specs.Gates.{GateView}
+use Rattle.sum_graph.specs.Graphs.{SumGraphView, first_work, products_in, sum_outputs}
+use Rattle.plan_choice.specs.declared.lean.Most.{Most}
+use Rattle.plan_choice.specs.Blocks.{IsPebblingFault, extent_of}
+use Rattle.plan_choice.specs.Choices.{NoLargerFits}
+use Rattle.plan_choice.specs.Lean.{CoveringFits, IsCovering, toffoli}
 
 -- whether there is no plan though memory was not wanting
 abbrev pub is_refusal : Result LaidView PlanFault → Bool
@@ -72,102 +69,44 @@ IsSearchFault s block b (Memory _) = IsPebblingFault s block b (Memory _)
 
 -- ---- plans of a lean graph
 
--- what is laid of a lean graph is narrow
-pub record IsLaidNarrow (start : Start) (s : SettledView) (b : BudgetView) (laid : LaidView)
-    : Type 0 where
-  pub for_graph : IsLaidFor start s b laid
-  pub narrow : AreNarrow laid.circuit.gates
+-- why no plan of a lean graph was laid: its row does not fit; memory is wanted only where the budget
+-- has the lines of the inputs and outputs
+abbrev pub IsLeanFault : SumGraphView → BudgetView → PlanFault → Type 0
+IsLeanFault l b (Lines need) =
+    HasNoLineEach l b × (need ≡ wanted_lines (first_work l) b)
+IsLeanFault l b Gates = b.gates < plain_weight l
+IsLeanFault l b (Memory _) = HasPortLines (first_work l) b
 
--- it has at most a line for each input, output, node and borrowed bit
-pub record IsLaidEach (s : SettledView) (l : SumGraphView) (b : BudgetView) (laid : LaidView)
+-- a narrow plan of a lean graph was laid as it is
+pub record IsLaidOfLean (start : Start) (l : SumGraphView) (b : BudgetView) (laid : LaidView)
     : Type 0 where
-  pub plan : IsLaidNarrow Any s b laid
+  pub plan : PlannedView
+  pub is_plan : IsNarrowPlan start l.inputs (length l.outputs) (sum_outputs l) b plan
+  pub as_is : IsLaidAsIs plan b laid
+
+-- The plan of the row: a line for each input, output, node and borrowed bit, two toggles of each
+-- node and one of each output.
+pub record IsRow (l : SumGraphView) (b : BudgetView) (laid : LaidView) : Type 0 where
+  pub laid_of : IsLaidOfLean Any l b laid
   pub lines : laid.circuit.lines ≤ first_work l + length l.nodes + b.borrow
+  pub products : toffoli laid ≤ 2 * products_in l.nodes + products_in l.outputs
+  pub gates : length laid.circuit.gates ≤ plain_weight l
 
--- it has no more gates than four toggles of each node and one of each output weigh
-pub record IsLaidReady (s : SettledView) (l : SumGraphView) (b : BudgetView) (laid : LaidView)
+-- The most that plans beside the row may have: its lines, and where it fits, its Toffoli gates and
+-- twice its gates.
+pub record IsMost (l : SumGraphView) (b : BudgetView) (most : Most) : Type 0 where
+  pub lines : most.lines ≤ first_work l + length l.nodes + b.borrow
+  pub toffoli : CoveringFits l b → most.toffoli ≤ 2 * products_in l.nodes + products_in l.outputs
+  pub gates : CoveringFits l b → most.gates ≤ 2 * plain_weight l
+
+pub record IsWithin (most : Most) (laid : LaidView) : Type 0 where
+  pub lines : laid.circuit.lines ≤ most.lines
+  pub toffoli : toffoli laid ≤ most.toffoli
+  pub gates : length laid.circuit.gates ≤ most.gates
+
+-- a plan of a lean graph that is within the most
+pub record IsLaidLean (start : Start) (l : SumGraphView) (b : BudgetView) (laid : LaidView)
     : Type 0 where
-  pub each : IsLaidEach s l b laid
-  pub gates : length laid.circuit.gates ≤ ready_gates l
-
--- where one block has all nodes, it has few Toffoli gates and gates
-pub record IsLaidBlock (s : SettledView) (l : SumGraphView) (block : ℕ) (b : BudgetView)
-    (laid : LaidView) : Type 0 where
-  pub each : IsLaidEach s l b laid
-  pub covering : length l.nodes ≤ block → IsCovering l laid
-
--- where one block of all nodes fits, it has few Toffoli gates and gates
-pub record IsLaidLean (s : SettledView) (l : SumGraphView) (b : BudgetView) (laid : LaidView)
-    : Type 0 where
-  pub each : IsLaidEach s l b laid
+  pub laid_of : IsLaidOfLean start l b laid
+  pub lines : laid.circuit.lines ≤ first_work l + length l.nodes + b.borrow
   pub covering : CoveringFits l b → IsCovering l laid
-
--- ---- the better of two plans
-
--- fewer flips under two lines; of as many, fewer lines; of as many, fewer gates
-abbrev pub is_better : LaidView → LaidView → Bool
-is_better p q =
-    if toffoli p == toffoli q
-    then (if p.circuit.lines == q.circuit.lines
-    then nat_lt (length p.circuit.gates) (length q.circuit.gates)
-    else nat_lt p.circuit.lines q.circuit.lines)
-    else nat_lt (toffoli p) (toffoli q)
-
--- the second plan where it fits and is better, else the first; want of memory passes on
-abbrev pub better_of : LaidView → Result LaidView PlanFault → Result LaidView PlanFault
-better_of ready (Ok pebbling) = Ok (if is_better pebbling ready then pebbling else ready)
-better_of ready (Err (Lines need)) = Ok ready
-better_of ready (Err Gates) = Ok ready
-better_of ready (Err (Memory _)) = Err (Memory _)
-
--- the better plan where both fit, and the one that fits where one does; else the refusal of the
--- second
-abbrev pub best_of : Result LaidView PlanFault → Result LaidView PlanFault
-    → Result LaidView PlanFault
-best_of (Ok ready) pebbling = better_of ready pebbling
-best_of (Err (Lines need)) pebbling = pebbling
-best_of (Err Gates) pebbling = pebbling
-best_of (Err (Memory _)) pebbling = Err (Memory _)
-
--- ---- the best of several plans
-
--- fewer flips under two lines; of as many, the smaller product of lines and gates; of as many,
--- fewer lines
-abbrev pub is_smaller : LaidView → LaidView → Bool
-is_smaller p q =
-    if toffoli p == toffoli q
-    then (if area p == area q
-    then nat_lt p.circuit.lines q.circuit.lines
-    else nat_lt (area p) (area q))
-    else nat_lt (toffoli p) (toffoli q)
-
--- the found plan where it is smaller than what was tried, or that was refused; want of memory
--- passes on
-abbrev pub smaller_of : Result LaidView PlanFault → LaidView → Result LaidView PlanFault
-smaller_of (Ok laid) found = Ok (if is_smaller found laid then found else laid)
-smaller_of (Err (Lines need)) found = Ok found
-smaller_of (Err Gates) found = Ok found
-smaller_of (Err (Memory _)) found = Err (Memory _)
-
--- the best plan so far is no worse than the lean one, where that fits
-pub record IsBestSoFar (s : SettledView) (b : BudgetView) (lean : Result LaidView PlanFault)
-    (laid : LaidView) : Type 0 where
-  pub plan : IsLaidNarrow Zero s b laid
-  pub enough : lean ≢ Err (Memory _)
-  pub best : IfOk lean (IsAsCompact laid)
-
--- what was found beside the lean plan: the best so far; or its refusal; or that memory was wanting
-abbrev pub IsFoundSoFar : SettledView → BudgetView → Result LaidView PlanFault
-    → Result LaidView PlanFault → Type 0
-IsFoundSoFar s b lean (Ok laid) = IsBestSoFar s b lean laid
-IsFoundSoFar s b lean (Err (Lines need)) = lean ≡ Err (Lines need)
-IsFoundSoFar s b lean (Err Gates) = lean ≡ Err Gates
-IsFoundSoFar s b lean (Err (Memory _)) = HasPortLines (ports_of s) b
-
--- a search that began with the lean plan
-pub record IsCompactSearch (s : SettledView) (b : BudgetView) (tried : Result LaidView PlanFault)
-    : Type 0 where
-  pub lean : Result LaidView PlanFault
-  pub is_lean : IfOk lean (IsLean s b)
-  pub refused : IfErr lean (IsChoiceFault Lean s b)
-  pub so_far : IsFoundSoFar s b lean tried

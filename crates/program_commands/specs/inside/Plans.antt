@@ -4,7 +4,7 @@ use Rattle.claim_check.specs.Settled.{SettledView, IsSettledOf}
 use Rattle.circuit_plans.specs.declared.plan.TheConstants.{MOST_LINES, MOST_GATES}
 use Rattle.circuit_plans.specs.Plans.{BudgetView, LaidView, roles_of, start_of}
 use Rattle.circuit_plans.specs.declared.roles.Start.{Start}
-use Rattle.held_nodes.specs.Plans.{wanted_lines}
+use Rattle.circuit_plans.specs.Plans.{wanted_lines}
 use Rattle.mct_circuit.specs.Gates.{AreGatesOn, AreNarrow}
 use Rattle.circuit_plans.specs.declared.choice.Plan.{Plan}
 use Rattle.plan_choice.specs.Choices.{GatesAreFew, IsChosen, IsLaidFor, LinesAreFew}

@@ -1,6 +1,8 @@
 use Rattle.std.proofs.Common.{◌≡◌, ℕ, ◌+◌, Bool, List, length, Err, ap, ◌∙◌, subst, arith}
 use Rattle.gate_split.specs.Split.{IsSplitList, PassesLimit, WantsIdle}
 use Rattle.mct_circuit.specs.Gates.{AreGatesOn, CircuitView, line_map}
+use Rattle.circuit_plans.proofs.BorrowedLemmas.{clean_circuits_borrow}
+use Rattle.gate_split.proofs.RoomyFlipLemmas.{roomy_flips}
 use Rattle.plan_choice.proofs.SplitLemmas.{is_laid_of, many_gates}
 use Rattle.plan_choice.proofs.laying.lay.Goals as goal
 
@@ -24,7 +26,7 @@ returns-in-Ok-clause-ok c =
     (subst (λ (n : CircuitView). IsSplitList (c.lines-2.result + c.borrow.result) c.gates.result n.gates narrow.gates) c.into_circuit.ensures
     c.in-Ok.ensures.gates)) in
     rw (c.new.ensures, c.inputs-inputs.ensures, c.outputs-outputs.ensures, c.work-work.ensures, c.borrow-in-Ok.ensures.borrow)
-    (is_laid_of p b narrow c.clean_circuits_borrow.ensures c.circuit.ensures.lines on c.requires.lines size split map)
+    (is_laid_of p b narrow clean_circuits_borrow c.circuit.ensures.lines on c.requires.lines size split map)
 
 pub returns-in-Err-Gates-clause-refused : goal.returns-in-Err-Gates-clause-refused
 returns-in-Err-Gates-clause-refused c =
@@ -35,7 +37,7 @@ returns-in-Err-Gates-clause-refused c =
     let refused : PassesLimit more c.gates.result p.circuit.gates =
     subst (λ (n : CircuitView). PassesLimit more c.gates.result n.gates) c.into_circuit.ensures
     (c.in-Err-Gates.ensures.over (ap Err c.in-Err-Gates.field-0-is)) in
-    let over = many_gates p.circuit.lines more c.gates.result p.circuit.gates c.roomy_flips_are_split.ensures (omega arith) c.requires.roomy refused in
+    let over = many_gates p.circuit.lines more c.gates.result p.circuit.gates roomy_flips (omega arith) c.requires.roomy refused in
     let limit = c.gates.ensures.gates in
     omega arith
 
@@ -44,7 +46,7 @@ unreachable-requires c =
     let p = c.args.planned in
     let more = c.lines-2.result + c.borrow.result in
     let place = c.in-Err-NoIdle.field-0-0 in
-    let law = c.roomy_flips_are_split.ensures in
+    let law = roomy_flips in
     let lines = ap (λ (n : CircuitView). n.lines) c.circuit.ensures.circuit in
     let count = c.lines-2.ensures.lines in
     let wants = subst (λ (n : CircuitView). WantsIdle more c.gates.result n.gates place) c.into_circuit.ensures

@@ -1,4 +1,5 @@
 use Rattle.std.proofs.lemmas.Result.{IfOk-weaker}
+use Rattle.gate_split.proofs.RoomyFlipLemmas.{roomy_flips}
 use Rattle.plan_choice.proofs.SplitLemmas.{laid_eager, laid_for}
 use Rattle.plan_choice.proofs.laying.lay_eager.Goals as goal
 
@@ -6,7 +7,7 @@ pub returns-clause-eager : goal.returns-clause-eager
 returns-clause-eager c =
     let e = c.in_ok-planned.ensures in
     IfOk-weaker c.lay.result _ _ (λ laid is. laid_eager c.args.graph.now c.args.budget.now c.in_ok-planned.planned laid
-    c.roomy_flips_are_split.ensures e.roomy e.few is)
+    roomy_flips e.roomy e.few is)
     c.lay.ensures.ok
 
 pub returns-clause-ok : goal.returns-clause-ok

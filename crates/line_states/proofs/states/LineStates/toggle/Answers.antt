@@ -4,7 +4,7 @@ use Rattle.list_facts.proofs.AllLemmas.{AllByRecursion-weaker}
 use Rattle.dependency_graph.specs.declared.node.Base.{Base}
 use Rattle.bit_sums.specs.Sums.{SumView}
 use Rattle.line_states.specs.Gathers.{toggle_gates}
-use Rattle.line_states.specs.States.{StatesView, sum_at, toggled_set}
+use Rattle.line_states.specs.States.{StatesView, toggled_set}
 use Rattle.line_states.specs.inside.Places.{ArePlaced, CanFlip, MovesSets}
 use Rattle.line_states.proofs.GateLemmas.{can_flip}
 use Rattle.line_states.proofs.ToggleLemmas.{tests_can, toggle_moves}
