@@ -172,7 +172,7 @@ LEANED = [
     (LEAN + " --lines 8", AND_OF_5, "x0 x1 x2 x3 x4 y0 w0 w1: t3 x0 x1 w0, t3 x2 w0 w1, t3 x0 x1 w0, t3 x3 w1 w0, "
      "t3 x4 w0 y0, t3 x3 w1 w0, t3 x0 x1 w0, t3 x2 w0 w1, t3 x0 x1 w0"),
     (LEAN + " --lines 7", AND_OF_5, "revc: lines 8 over 7"),
-    (LEAN + " --gates 8 --lines 8", AND_OF_5, "revc: more than 8 gates"),
+    (LEAN + " --gates 8 --lines 8", AND_OF_5, "revc: lines 9 over 8"),
     (LEAN + " --gates 6", AND_OF_5, "revc: more than 6 gates"),
     (LEAN + " --gates 1 --lines 5", AND_OF_5, "revc: lines 6 over 5"),
     (LEAN + " --borrow 2 --lines 8", AND_OF_5, "revc: lines 9 over 8"),
