@@ -21,7 +21,7 @@ loop-mark-preserved c =
     let step = step_below c.from-next.result _ c.from-next.ensures in (
       starts_more c.args.marks.now (bits_of c.as_bytes-digits.result.now) _ c.loop-mark.lines.items c.loop-mark.mark-index c.loop-mark.next _ _
           (drop_more c.args.marks.now c.loop-mark.mark-index Free c.loop-mark-test.true) c.loop-mark.invariant.0
-          (c.in_ok-push.ensures.items ∙ ap (λ (bit : Bool). c.loop-mark.lines.items ++ bit ∷ []) c.first_bit.ensures)
+          (◌∙◌ {A = List Bool} c.in_ok-push.ensures.items (ap (λ (bit : Bool). c.loop-mark.lines.items ++ bit ∷ []) c.first_bit.ensures))
           (stepped _ (bits_of c.as_bytes-digits.result.now) c.loop-mark.next c.from-next.result _ c.from-next.ensures c.is_free.ensures),
       omega arith,
     )

@@ -14,6 +14,6 @@ loop-word-preserved c =
       rows = ap contents c.in_ok-push.ensures.items
           ∙ started_more c.args.marks.now c.args.words.now c.loop-word.rows.items row c.loop-word.word-index c.word-item.result c.as_str.result.now
           c.loop-word-test.true c.word-item.is c.as_str.ensures.value c.in_ok-start.ensures c.loop-word.invariant.rows;
-      fit = subst (λ (rs : List (Vec Bool)). AreRows (length c.args.marks.now) rs) (sym c.in_ok-push.ensures.items)
+      fit = subst (λ (rs : List (Vec Bool)). AreRows (length c.args.marks.now) rs) (sym {A = List (Vec Bool)} c.in_ok-push.ensures.items)
           (AllByRecursion-push (λ (r : Vec Bool). length r.items ≡ length c.args.marks.now) c.loop-word.rows.items row c.loop-word.invariant.fit long);
     }
