@@ -1,5 +1,5 @@
 // `check`: how many claims a program has, each of which holds on all inputs.
-ghost use Rattle.std.specs.Prelude.{◌≡◌, ◌≤◌, length, IfOk, IfErr};
+ghost use Rattle.std.specs.Prelude.{◌≤◌, length, IfOk, IfErr};
 ghost use Rattle.program_texts.specs.Check.{promise, IsChecked, claims_text};
 ghost use Rattle.command_answers.specs.Outcomes.{HasOneOutcome};
 ghost use Rattle.program_texts.specs.Outcomes.{IsSettlingFault};

@@ -3,7 +3,6 @@ ghost use Rattle.std.specs.Prelude.{◌≡◌, ◌≤◌, length, sum, IfOk, IfE
 ghost use Rattle.command_answers.specs.Outcomes.{HasOneOutcome};
 ghost use Rattle.command_answers.specs.BitWords.{IsInputWord, bits_of};
 ghost use Rattle.program_texts.specs.Eval.{promise, IsValueOf};
-ghost use Rattle.revc_words.specs.Words.{first_word, order_of};
 ghost use Rattle.program_texts.specs.inside.Mappings.{bits_fault};
 ghost use Rattle.program_texts.specs.Outcomes.{IsEvalFault};
 ghost use Rattle.program_texts.specs.inside.Stages.{IsBitsFault};
