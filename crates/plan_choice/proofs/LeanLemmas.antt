@@ -13,7 +13,7 @@ use Rattle.circuit_plans.specs.declared.choice.Plan.TheVariants.{Compact, Lean}
 use Rattle.circuit_plans.specs.declared.plan.PlanFault.{PlanFault}
 use Rattle.circuit_plans.specs.declared.plan.PlanFault.TheVariants.{Lines, Gates, Memory}
 use Rattle.circuit_plans.specs.declared.roles.Start.{Start}
-use Rattle.circuit_plans.specs.declared.roles.Start.TheVariants.{Any}
+use Rattle.circuit_plans.specs.declared.roles.Start.TheVariants.{Any, Zero}
 use Rattle.circuit_plans.specs.Plans.{BudgetView, HasPortLines, IsNarrowPlan, LaidView, PlannedView, roles_of_plan, wanted_lines}
 use Rattle.claim_check.specs.Budgets.{Measures, lean_gates}
 use Rattle.claim_check.specs.Measures.{IsWithin}
@@ -21,11 +21,11 @@ use Rattle.claim_check.specs.Settled.{SettledView, settled_outputs}
 use Rattle.eager_cleanup.specs.Eager.{ports_of}
 use Rattle.mct_circuit.specs.Gates.{AreNarrow, GateView}
 use Rattle.mct_circuit.specs.Sizes.{counts_of}
-use Rattle.sum_graph.specs.Graphs.{HasFewBits, HasNoConstant, IsLeanOf, SumGraphView, first_work, sum_outputs, weight_in}
+use Rattle.sum_graph.specs.Graphs.{HasFewBits, HasNoConstant, IsLeanOf, SumGraphView, first_work, products_in, sum_outputs, weight_in}
 use Rattle.sum_toggles.specs.Toggles.{product_weight, toggle_weight}
 use Rattle.plan_choice.specs.declared.lean.Most.{Most}
-use Rattle.plan_choice.specs.Choices.{IsChoiceFault, IsLaidFor, IsLean, LeanFits, LinesAreFew}
-use Rattle.plan_choice.specs.Lean.{CoveringFits, IsCovering, IsThrifty, toffoli}
+use Rattle.plan_choice.specs.Choices.{IsChoiceFault, IsLaidFor, IsLean, IsOfLean, LeanFits, LinesAreFew}
+use Rattle.plan_choice.specs.Lean.{CoveringFits, IsThrifty, toffoli}
 use Rattle.plan_choice.specs.inside.Tried as tried
 use Rattle.plan_choice.specs.inside.Tried.{IsLaidAsIs, IsLaidLean, IsLaidOfLean, IsLeanFault, IsMost, IsRow}
 use Rattle.plan_choice.proofs.SplitLemmas.{same_outputs}
@@ -67,6 +67,11 @@ no_gates l b h fits = let gates = fits.gates in omega (arith, h, gates)
 
 -- ---- plans beside the row
 
+row_gates : (start : Start) (l : SumGraphView) (b : BudgetView) (laid : LaidView) → IsRow l b laid
+    → tried.HasFewGates start l b (length laid.circuit.gates)
+row_gates Any l b laid row = λ fits. (let few = row.gates in omega (arith, few))
+row_gates Zero l b laid row = tt
+
 -- a plan for any bits on the output lines is one for those that they may hold
 pub any_start : (start : Start) (l : SumGraphView) (b : BudgetView) (laid : LaidView) → IsRow l b laid → IsLaidLean start l b laid
 any_start start l b laid row = record {
@@ -84,42 +89,59 @@ any_start start l b laid row = record {
     as_is = row.laid_of.as_is;
   };
   lines = row.lines;
-  covering = λ fits. record { products = row.products; gates = let few = row.gates in omega (arith, few) };
+  products = λ fits. row.products;
+  gates = row_gates start l b laid row;
 }
 
-pub most_of_row : (l : SumGraphView) (b : BudgetView) (laid : LaidView) (most : Most) → IsRow l b laid
-    → most.lines ≡ first_work l + length l.nodes + b.borrow → most.toffoli ≡ toffoli laid → most.gates ≤ 2 * length laid.circuit.gates → IsMost l b most
-most_of_row l b laid most row lines same twice = record {
+few_gates : (start : Start) (l : SumGraphView) (b : BudgetView) (laid : LaidView) (gates : ℕ) → IsRow l b laid → tried.AreFewBeside start laid gates
+    → tried.HasFewGates start l b gates
+few_gates Any l b laid gates row twice = λ fits. (let few = row.gates in omega (arith, twice, few))
+few_gates Zero l b laid gates row twice = tt
+
+any_gates : (start : Start) (l : SumGraphView) (b : BudgetView) (gates : ℕ) → ¬ CoveringFits l b → tried.HasFewGates start l b gates
+any_gates Any l b gates none = λ fits. absurd (none fits)
+any_gates Zero l b gates none = tt
+
+no_gates_are_few : (start : Start) (l : SumGraphView) (b : BudgetView) (gates : ℕ) → gates ≡ 0 → tried.HasFewGates start l b gates
+no_gates_are_few Any l b gates none = λ fits. omega (arith, none)
+no_gates_are_few Zero l b gates none = tt
+
+fewer_gates : (start : Start) (l : SumGraphView) (b : BudgetView) (more few : ℕ) → few ≤ more → tried.HasFewGates start l b more
+    → tried.HasFewGates start l b few
+fewer_gates Any l b more few less has = λ fits. (let gates = has fits in omega (arith, less, gates))
+fewer_gates Zero l b more few less has = tt
+
+pub most_of_row : (start : Start) (l : SumGraphView) (b : BudgetView) (laid : LaidView) (most : Most) → IsRow l b laid
+    → most.lines ≡ first_work l + length l.nodes + b.borrow → most.toffoli ≡ toffoli laid → tried.AreFewBeside start laid most.gates → IsMost start l b most
+most_of_row start l b laid most row lines same twice = record {
   lines = omega (arith, lines);
   toffoli = λ fits. (let few = row.products in omega (arith, same, few));
-  gates = λ fits. (let few = row.gates in omega (arith, twice, few));
+  gates = few_gates start l b laid most.gates row twice;
 }
 
-pub most_of_nothing : (l : SumGraphView) (b : BudgetView) (most : Most) → most.lines ≡ first_work l + length l.nodes + b.borrow → most.toffoli ≡ 0
-    → most.gates ≡ 0 → IsMost l b most
-most_of_nothing l b most lines toffoli gates = record {
+pub most_of_nothing : (start : Start) (l : SumGraphView) (b : BudgetView) (most : Most) → most.lines ≡ first_work l + length l.nodes + b.borrow
+    → most.toffoli ≡ 0 → most.gates ≡ 0 → IsMost start l b most
+most_of_nothing start l b most lines toffoli gates = record {
   lines = omega (arith, lines);
   toffoli = λ fits. omega (arith, toffoli);
-  gates = λ fits. omega (arith, gates);
+  gates = no_gates_are_few start l b most.gates gates;
 }
 
-pub most_of_none : (l : SumGraphView) (b : BudgetView) (most : Most) → ¬ CoveringFits l b → most.lines ≡ first_work l + length l.nodes + b.borrow
-    → IsMost l b most
-most_of_none l b most none lines = record {
+pub most_of_none : (start : Start) (l : SumGraphView) (b : BudgetView) (most : Most) → ¬ CoveringFits l b
+    → most.lines ≡ first_work l + length l.nodes + b.borrow → IsMost start l b most
+most_of_none start l b most none lines = record {
   lines = omega (arith, lines);
   toffoli = λ fits. absurd (none fits);
-  gates = λ fits. absurd (none fits);
+  gates = any_gates start l b most.gates none;
 }
 
-pub within_most : (start : Start) (l : SumGraphView) (b : BudgetView) (most : Most) (p : PlannedView) (laid : LaidView) → IsMost l b most
+pub within_most : (start : Start) (l : SumGraphView) (b : BudgetView) (most : Most) (p : PlannedView) (laid : LaidView) → IsMost start l b most
     → IsNarrowPlan start l.inputs (length l.outputs) (sum_outputs l) b p → IsLaidAsIs p b laid → tried.IsWithin most laid → IsLaidLean start l b laid
 within_most start l b most p laid is plan kept within = record {
   laid_of = record { plan = p; is_plan = plan; as_is = kept };
   lines = omega (arith, within.lines, is.lines);
-  covering = λ fits. record {
-    products = (let few = is.toffoli fits in omega (arith, within.toffoli, few));
-    gates = (let few = is.gates fits in omega (arith, within.gates, few));
-  };
+  products = λ fits. (let few = is.toffoli fits in omega (arith, within.toffoli, few));
+  gates = fewer_gates start l b most.gates (length laid.circuit.gates) within.gates is.gates;
 }
 
 pub better_fits : (start : Start) (l : SumGraphView) (b : BudgetView) (was now : Result LaidView PlanFault) (found : LaidView)
@@ -223,27 +245,33 @@ module _ (s : SettledView) (l : SumGraphView) (b : BudgetView) (lean : IsLeanOf 
             (same_outputs start (roles_of_plan p) p.circuit.gates (sum_outputs l) (settled_outputs s) lean.values plan.clean);
       }
 
-  thrifty : (laid : LaidView) → IsCovering l laid → IsThrifty s laid
-  thrifty laid is = record {
-    all = omega (arith, is.products, lean.products);
-    lone = λ lone go. omega (arith, is.products, lean.products, lean.nodes_beside lone go);
+  thrifty : (laid : LaidView) → toffoli laid ≤ 2 * products_in l.nodes + products_in l.outputs → IsThrifty s laid
+  thrifty laid few = record {
+    all = omega (arith, few, lean.products);
+    lone = λ lone go. omega (arith, few, lean.products, lean.nodes_beside lone go);
   }
 
-  is_lean : (start : Start) (laid : LaidView) → IsLaidLean start l b laid → IsLean s b laid
-  is_lean start laid is = record {
+  is_lean : (laid : LaidView) → IsLaidLean Any l b laid → IsLean s b laid
+  is_lean laid is = record {
     graph = l;
     lean = lean;
     narrow = subst AreNarrow (sym is.laid_of.as_is.same) is.laid_of.is_plan.narrow;
     lines = is.lines;
-    covering = is.covering;
+    covering = λ fits. record { products = is.products fits; gates = is.gates fits };
     row_lines = λ m within. omega (arith, is.lines, lean.inputs, lean.outputs, lean.few, within.inputs, within.outputs, within.steps);
-    row_gates = λ m within fit.
-        omega (arith, (is.covering (row_covers s l b m lean within fit)).gates, row_weight s l m lean within);
-    few = λ m within fit. thrifty laid (is.covering (row_covers s l b m lean within fit));
+    row_gates = λ m within fit. (let gates = is.gates (row_covers s l b m lean within fit) in omega (arith, gates, row_weight s l m lean within));
+    few = λ m within fit. thrifty laid (is.products (row_covers s l b m lean within fit));
+  }
+
+  of_lean : (start : Start) (laid : LaidView) → IsLaidLean start l b laid → IsOfLean start s b laid
+  of_lean Any laid is = is_lean laid is
+  of_lean Zero laid is = record {
+    narrow = subst AreNarrow (sym is.laid_of.as_is.same) is.laid_of.is_plan.narrow;
+    few = λ m within fit. thrifty laid (is.products (row_covers s l b m lean within fit));
   }
 
   pub laid_for_lean : (start : Start) (tried : Result LaidView PlanFault) → IfOk tried (IsLaidLean start l b) → IfOk tried (IsLaidFor start s b)
   laid_for_lean start tried is = IfOk-weaker tried (IsLaidLean start l b) (IsLaidFor start s b) (for_settled start) is
 
-  pub laid_lean : (start : Start) (tried : Result LaidView PlanFault) → IfOk tried (IsLaidLean start l b) → IfOk tried (IsLean s b)
-  laid_lean start tried is = IfOk-weaker tried (IsLaidLean start l b) (IsLean s b) (is_lean start) is
+  pub laid_lean : (start : Start) (tried : Result LaidView PlanFault) → IfOk tried (IsLaidLean start l b) → IfOk tried (IsOfLean start s b)
+  laid_lean start tried is = IfOk-weaker tried (IsLaidLean start l b) (IsOfLean start s b) (of_lean start) is

@@ -9,6 +9,7 @@ use Rattle.claim_check.specs.Settled.{SettledView, settled_outputs}
 use Rattle.circuit_plans.specs.declared.plan.PlanFault.{PlanFault}
 use Rattle.circuit_plans.specs.declared.plan.PlanFault.TheVariants.{Lines, Gates, Memory}
 use Rattle.circuit_plans.specs.declared.roles.Start.{Start}
+use Rattle.circuit_plans.specs.declared.roles.Start.TheVariants.{Any, Zero}
 use Rattle.circuit_plans.specs.Plans.{AddsOutputs, BudgetView, LaidView, roles_of}
 use Rattle.sum_graph.specs.Graphs.{first_work}
 use Rattle.circuit_plans.specs.Plans.{HasPortLines, wanted_lines}
@@ -159,6 +160,17 @@ pub record IsLean (s : SettledView) (b : BudgetView) (laid : LaidView) : Type 0 
       → length laid.circuit.gates ≤ 2 * lean_gates m
   pub few : (m : Measures) → IsWithin s m → LeanFits b m → IsThrifty s laid
 
+-- A plan on output lines that begin at 0, of narrow gates: where the lean row fits, it has few
+-- Toffoli gates for the settled graph.
+pub record IsCompact (s : SettledView) (b : BudgetView) (laid : LaidView) : Type 0 where
+  pub narrow : AreNarrow laid.circuit.gates
+  pub few : (m : Measures) → IsWithin s m → LeanFits b m → IsThrifty s laid
+
+-- a plan of the lean graph, by what the output lines may hold
+abbrev pub IsOfLean : Start → SettledView → BudgetView → LaidView → Type 0
+IsOfLean Any s b laid = IsLean s b laid
+IsOfLean Zero s b laid = IsCompact s b laid
+
 -- the eager numbers do not both fit
 pub record NoEagerFits (s : SettledView) (b : BudgetView) : Type 0 where
   pub none : (m : Measures) → IsWithin s m → ¬ EagerFits b m
@@ -167,7 +179,7 @@ pub record NoEagerFits (s : SettledView) (b : BudgetView) : Type 0 where
 -- it alone is allowed
 abbrev pub IsChosen : Plan → SettledView → BudgetView → LaidView → Type 0
 IsChosen Auto s b laid = IsEager s b laid ⊎ (NoEagerFits s b × IsPebbling s b laid)
-IsChosen Compact s b laid = IsLean s b laid
+IsChosen Compact s b laid = IsCompact s b laid
 IsChosen Eager s b laid = IsEager s b laid
 IsChosen Lean s b laid = IsLean s b laid
 IsChosen Pebble s b laid = IsPebbling s b laid

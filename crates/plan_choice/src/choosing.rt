@@ -2,7 +2,7 @@
 ghost use Rattle.std.specs.Prelude.{◌≡◌, ◌+◌, ◌≤◌, IfOk, IfErr};
 ghost use Rattle.eager_cleanup.specs.Eager.{ports_of};
 ghost use Rattle.sum_graph.specs.Plain.{plain_of};
-ghost use Rattle.plan_choice.specs.Choices.{IsChoiceFault, IsChosen, IsLaidFor, IsLean};
+ghost use Rattle.plan_choice.specs.Choices.{IsChoiceFault, IsChosen, IsLaidFor, IsOfLean};
 ghost use Rattle.circuit_plans.specs.declared.choice.Plan.TheVariants.{Auto, Compact, Lean};
 ghost use Rattle.circuit_plans.specs.declared.roles.Start.TheVariants.{Any};
 ghost use Rattle.circuit_plans.specs.Plans.{HasPortLines, start_of};
@@ -81,7 +81,7 @@ fn eager_or_pebbling(alloc: Global, graph: &Settled, plain: &SumGraph, budget: &
 fn lean_plan(alloc: Global, graph: &Settled, budget: &Budget, start: Start) -> Tried
     requires { HasPortLines (ports_of graph.now) budget.now }
     ensures ok { IfOk result (IsLaidFor start graph.now budget.now) }
-    ensures lean { IfOk result (IsLean graph.now budget.now) }
+    ensures chosen { IfOk result (IsOfLean start graph.now budget.now) }
     ensures refused { IfErr result (IsChoiceFault Lean graph.now budget.now) }
     ensures refused_too { IfErr result (IsChoiceFault Compact graph.now budget.now) }
 {

@@ -1,7 +1,9 @@
 // The plans of a lean graph, laid: that of its row, and the best of those that planners find.
-ghost use Rattle.std.specs.Prelude.{◌≡◌, ◌⊎◌, length, IfErr, IfOk, IfSome, IsTrue, Ok};
+ghost use Rattle.std.specs.Prelude.{◌≡◌, ◌⊎◌, ◌≤◌, length, IfErr, IfOk, IfSome, IsTrue, Ok};
+ghost use Rattle.circuit_plans.specs.declared.plan.TheConstants.{MOST_GATES};
 ghost use Rattle.circuit_plans.specs.Plans.{HasPortLines, IsNarrowPlan};
-ghost use Rattle.plan_choice.specs.inside.Tried.{IsLaidLean, IsLeanFault, IsMost, IsRow, IsWithin};
+ghost use Rattle.plan_choice.specs.inside.Tried.{AreFewBeside, IsLaidLean, IsLeanFault, IsMost};
+ghost use Rattle.plan_choice.specs.inside.Tried.{IsRow, IsWithin};
 ghost use Rattle.sum_graph.specs.Graphs.{first_work, sum_outputs};
 
 use crate::laying::{Tried, lay_narrow};
@@ -19,7 +21,7 @@ pub fn lay_lean(alloc: Global, lean: &SumGraph, budget: &Budget, start: Start) -
     ensures refused { IfErr result (IsLeanFault lean.now budget.now) }
 {
     let row = lay_row(alloc, lean, budget);
-    let most = most_of(lean, budget, &row);
+    let most = most_of(lean, budget, start, &row);
     let limits = limits_of(budget);
     let homes = home_plans::plan(alloc, lean, limits, start == Start::Zero);
     let found = follow_moves(alloc, lean, budget, start, homes)?;
@@ -61,12 +63,12 @@ pub struct Most {
     gates: u64,
 }
 
-// The lines of the row, and where its plan was laid, its Toffoli gates and twice its gates; nothing
-// where memory was wanting.
-fn most_of(lean: &SumGraph, budget: &Budget, row: &Tried) -> Most
+// The lines of the row, and where its plan was laid, its Toffoli gates and gates as `gates_beside`
+// says; nothing where memory was wanting.
+fn most_of(lean: &SumGraph, budget: &Budget, start: Start, row: &Tried) -> Most
     requires ok { IfOk row.now (IsRow lean.now budget.now) }
     requires refused { IfErr row.now (IsLeanFault lean.now budget.now) }
-    ensures { IsMost lean.now budget.now result }
+    ensures { IsMost start lean.now budget.now result }
 {
     let limit = budget.gates();
     let ports = lean.inputs() + lean.outputs().len() as u32;
@@ -75,7 +77,7 @@ fn most_of(lean: &SumGraph, budget: &Budget, row: &Tried) -> Most
         Ok(laid) => Most {
             lines,
             toffoli: laid.circuit().counts().ccx,
-            gates: 2 * laid.circuit().len().min(limit),
+            gates: gates_beside(start, laid, limit),
         },
         Err(PlanFault::Memory(_)) => Most {
             lines,
@@ -87,6 +89,18 @@ fn most_of(lean: &SumGraph, budget: &Budget, row: &Tried) -> Most
             toffoli: limit,
             gates: limit,
         },
+    }
+}
+
+// Twice the gates of the row, where the output lines may hold any bits; the limit where they begin at
+// 0, since sums in place take many CX gates.
+fn gates_beside(start: Start, row: &Laid, limit: u64) -> u64
+    requires { limit ≤ MOST_GATES }
+    ensures { AreFewBeside start row.now result }
+{
+    match start {
+        Start::Any => 2 * row.circuit().len().min(limit),
+        Start::Zero => limit,
     }
 }
 
@@ -111,7 +125,7 @@ fn or_better(
     tried: Tried,
     found: Option<Planned>,
 ) -> Tried
-    requires most { IsMost lean.now budget.now most }
+    requires most { IsMost start lean.now budget.now most }
     requires ok { IfOk tried (IsLaidLean start lean.now budget.now) }
     requires refused { IfErr tried (IsLeanFault lean.now budget.now) }
     requires found { IfSome found (IsNarrowPlan start lean.now.inputs (length lean.now.outputs)

@@ -20,7 +20,7 @@ use Rattle.real_format.proofs.MeaningLemmas as real
 use Rattle.mct_circuit.specs.Sizes.{counts_of}
 use Rattle.circuit_plans.specs.declared.choice.Plan.TheVariants.{Auto, Compact, Eager, Lean, Pebble}
 use Rattle.flip_orders.proofs.ReorderingLemmas.{AreReordered-refl}
-use Rattle.plan_choice.specs.Choices.{IsChosen, IsLean, LeanFits}
+use Rattle.plan_choice.specs.Choices.{IsChosen, IsCompact, IsLean, LeanFits}
 use Rattle.program_commands.specs.Outcomes.{IsCompileFault, IsWritable, file_of}
 use Rattle.program_texts.specs.Outcomes.{IsSettlingFault, IsTextFault}
 use Rattle.revc_words.specs.declared.order.Format.{Format}
@@ -105,7 +105,7 @@ module _ (order : OrderView) (laid : LaidView) (tape : TapeView) (s : SettledVie
       few = λ which fit. elim which as (λ _. (counts_of laid.circuit.gates).ccx ≤ 2 * ands_of tape) [
         | inl lean ↦ omega (arith, ((lean_plan lean).few m within (row_fits fit)).all, no_larger.ands)
         | inr compact ↦
-            let plan : IsLean s (budget_of order) laid = subst (λ (how : Plan). IsChosen how s (budget_of order) laid) compact chosen in
+            let plan : IsCompact s (budget_of order) laid = subst (λ (how : Plan). IsChosen how s (budget_of order) laid) compact chosen in
             omega (arith, (plan.few m within (row_fits fit)).all, no_larger.ands)
       ];
     }

@@ -6,7 +6,7 @@ use Rattle.bennett_pebbling.specs.Pebbling.{HasNoLineEach, plain_weight}
 use Rattle.circuit_plans.specs.declared.plan.PlanFault.{PlanFault}
 use Rattle.circuit_plans.specs.declared.plan.PlanFault.TheVariants.{Lines, Gates, Memory}
 use Rattle.circuit_plans.specs.declared.roles.Start.{Start}
-use Rattle.circuit_plans.specs.declared.roles.Start.TheVariants.{Any}
+use Rattle.circuit_plans.specs.declared.roles.Start.TheVariants.{Any, Zero}
 use Rattle.circuit_plans.specs.Plans.{AddsOutputs, BudgetView, HasPortLines, IsNarrowPlan, PlannedView, LaidView, roles_of, roles_of_plan, wanted_lines}
 use Rattle.claim_check.specs.Settled.{SettledView}
 use Rattle.gate_split.specs.Costs.{most_gates}
@@ -16,7 +16,7 @@ use Rattle.sum_graph.specs.Graphs.{SumGraphView, first_work, products_in, sum_ou
 use Rattle.plan_choice.specs.declared.lean.Most.{Most}
 use Rattle.plan_choice.specs.Blocks.{IsPebblingFault, extent_of}
 use Rattle.plan_choice.specs.Choices.{NoLargerFits}
-use Rattle.plan_choice.specs.Lean.{CoveringFits, IsCovering, toffoli}
+use Rattle.plan_choice.specs.Lean.{CoveringFits, toffoli}
 
 -- whether there is no plan though memory was not wanting
 abbrev pub is_refusal : Result LaidView PlanFault → Bool
@@ -92,12 +92,24 @@ pub record IsRow (l : SumGraphView) (b : BudgetView) (laid : LaidView) : Type 0 
   pub products : toffoli laid ≤ 2 * products_in l.nodes + products_in l.outputs
   pub gates : length laid.circuit.gates ≤ plain_weight l
 
--- The most that plans beside the row may have: its lines, and where it fits, its Toffoli gates and
--- twice its gates.
-pub record IsMost (l : SumGraphView) (b : BudgetView) (most : Most) : Type 0 where
+-- so many gates are at most twice those of the row, where it fits and the output lines may hold any
+-- bits; of plans on lines that begin at 0 nothing is said
+abbrev pub HasFewGates : Start → SumGraphView → BudgetView → ℕ → Type 0
+HasFewGates Any l b gates = CoveringFits l b → gates ≤ 2 * plain_weight l
+HasFewGates Zero l b gates = ⊤
+
+-- so many gates are at most twice those of a plan, where the output lines may hold any bits
+abbrev pub AreFewBeside : Start → LaidView → ℕ → Type 0
+AreFewBeside Any laid gates = gates ≤ 2 * length laid.circuit.gates
+AreFewBeside Zero laid gates = ⊤
+
+-- The most that plans beside the row may have: its lines, and where it fits, its Toffoli gates, and
+-- where the output lines may hold any bits, twice its gates.
+pub record IsMost (start : Start) (l : SumGraphView) (b : BudgetView) (most : Most)
+    : Type 0 where
   pub lines : most.lines ≤ first_work l + length l.nodes + b.borrow
   pub toffoli : CoveringFits l b → most.toffoli ≤ 2 * products_in l.nodes + products_in l.outputs
-  pub gates : CoveringFits l b → most.gates ≤ 2 * plain_weight l
+  pub gates : HasFewGates start l b most.gates
 
 pub record IsWithin (most : Most) (laid : LaidView) : Type 0 where
   pub lines : laid.circuit.lines ≤ most.lines
@@ -109,4 +121,5 @@ pub record IsLaidLean (start : Start) (l : SumGraphView) (b : BudgetView) (laid 
     : Type 0 where
   pub laid_of : IsLaidOfLean start l b laid
   pub lines : laid.circuit.lines ≤ first_work l + length l.nodes + b.borrow
-  pub covering : CoveringFits l b → IsCovering l laid
+  pub products : CoveringFits l b → toffoli laid ≤ 2 * products_in l.nodes + products_in l.outputs
+  pub gates : HasFewGates start l b (length laid.circuit.gates)

@@ -5,8 +5,8 @@ pub returns-clause-ok : goal.returns-clause-ok
 returns-clause-ok c =
     laid_for_lean c.args.graph.now c.in_ok-lean.lean c.args.budget.now c.in_ok-lean.ensures.lean c.args.start c.lay_lean.result c.lay_lean.ensures.ok
 
-pub returns-clause-lean : goal.returns-clause-lean
-returns-clause-lean c =
+pub returns-clause-chosen : goal.returns-clause-chosen
+returns-clause-chosen c =
     laid_lean c.args.graph.now c.in_ok-lean.lean c.args.budget.now c.in_ok-lean.ensures.lean c.args.start c.lay_lean.result c.lay_lean.ensures.ok
 
 pub returns-clause-refused : goal.returns-clause-refused
