@@ -178,7 +178,7 @@ LEANED = [
     (LEAN + " --borrow 2 --lines 8", AND_OF_5, "revc: lines 9 over 8"),
 ]
 
-# Lines, gates and Toffoli gates of examples
+# Lines, gates and Toffoli gates of examples, at most
 LEAN_SIZES = {"adder": (5, 9, 1), "majority": (4, 6, 1), "chi5": (10, 15, 5), "present": (14, 40, 13),
               "comparator": (11, 41, 9), "multiplier4": (44, 195, 54), "speck": (95, 312, 30),
               "sha256": (878, 4_851, 496)}

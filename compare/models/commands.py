@@ -6,8 +6,7 @@ from models.adders import adder_text
 from models.claims import TooWide, settled
 from models.graphs import Graph
 from models.language import Run, program_of
-from models.lean import lean
-from models.plans import Budget, NoIdle, OverGates, OverLines, Plan, Settled, choose, flip, split, width_of
+from models.plans import LEAN_PLANS, Budget, NoIdle, OverGates, OverLines, Plan, Settled, choose, flip, split, width_of
 from models.templates import template_text
 from models.tidied import Flip, tidied
 from models.verdicts import MOST_BYTES, Start, Verdict, first_wide, parted, verdict_on
@@ -82,17 +81,17 @@ def budget_of(order: Order) -> Budget:
 
 
 class Unmodelled(Exception):
-    """A compact plan or a lean file is wanted: no model makes it, and what is written is judged by its meaning."""
+    """A lean or compact plan is wanted: no model makes it, and what is written is judged by its meaning."""
 
 
 def planned(order: Order, text: bytes) -> Tuple[Run, Plan]:
     """The run of a text's program, whose claims hold on all inputs, and the plan of its circuit."""
     run, budget, plan = settled_run(order, run_on_zeros(text)), budget_of(order), order.values["plan"]
-    if plan == "compact":
+    if plan in LEAN_PLANS:
         raise Unmodelled()
     settled = Settled(len(run.bits), Graph(run))
     try:
-        return run, lean(settled, budget) if plan == "lean" else choose(settled, budget, plan)
+        return run, choose(settled, budget, plan)
     except OverLines as over:
         raise Fault(6, "lines %d over %d" % (over.need, budget.lines)) from None
     except OverGates:
@@ -101,8 +100,6 @@ def planned(order: Order, text: bytes) -> Tuple[Run, Plan]:
 
 def compile_text(order: Order, text: bytes) -> bytes:
     run, plan = planned(order, text)
-    if order.values["plan"] == "lean":  # its gates are written in the best order
-        raise Unmodelled()
     return WRITERS[order.values["format"]](len(run.bits), len(run.outputs), plan, order.values["borrow"])
 
 

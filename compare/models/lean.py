@@ -1,5 +1,6 @@
 """A model of lean circuits: a program's graph as sums of bits and of products, of which few stand on lines of their
-own, and the plans over such a graph.
+own, and plans over such a graph, by which
+budgets are chosen that are near to what is needed.
 
 A base is a number, as in `plans`: an input, or the number of inputs and that of a node. So bases rise as the lines of
 a circuit do, and lists of bases have the dictionary's order.
@@ -7,7 +8,7 @@ a circuit do, and lists of bases have the dictionary's order.
 from functools import partial
 from typing import Callable, Dict, FrozenSet, Iterable, List, NamedTuple, Optional, Set, Tuple
 
-from models.plans import Budget, Forward, OverGates, OverLines, Plan, Settled, blocks_of, flip, pebble
+from models.plans import Budget, Forward, Plan, Settled, blocks_of, flip, pebble
 from models.real import Gate
 
 MOST_SHORT = 4  # bits of a sum that may stand without a line, and of a factor that a join gives
@@ -241,23 +242,3 @@ def by_blocks(graph: LeanGraph, budget: Budget) -> List[Callable[[], Plan]]:
 def lean_tries(settled: Settled, budget: Budget) -> List[Callable[[], Plan]]:
     graph = LeanGraph(settled)
     return [partial(ready, graph, budget)] + by_blocks(graph, budget)
-
-
-def toffoli_gates(plan: Plan) -> int:
-    return sum(len(gate.controls) == 2 for gate in plan.gates)
-
-
-def lean(settled: Settled, budget: Budget) -> Plan:
-    """The better one of the ready plan and the first by pebbling that fits, or the refusal of the last one."""
-    first, *others = lean_tries(settled, budget)
-    plans, refusal = [], None
-    for makes in ([first], others):
-        for make in makes:
-            try:
-                plans.append(make())
-                break
-            except (OverLines, OverGates) as over:
-                refusal = over
-    if not plans:
-        raise refusal
-    return min(plans, key=lambda plan: (toffoli_gates(plan), plan.lines, len(plan.gates)))
