@@ -9,7 +9,8 @@ use std::io::{Error, ErrorKind, Read};
 use std::process::Abort;
 use std::test::Fail;
 
-// A call of each command that ends well: its words, and its text, which is empty where none is read.
+// A call of each command that ends well: its words, and its text, which is empty where none is
+// read.
 const CALLS: &[(&str, &[u8])] = &[
     ("compile", PRODUCT),
     ("compile --format qasm", PRODUCT),

@@ -1,6 +1,6 @@
-//! Tests over devices that fail, or have no room: of the top call, whose reads and writes fail in turn,
-//! and of what it reads and writes by. All else that a call answers is tested by rows on the built
-//! program.
+//! Tests over devices that fail, or have no room: of the top call, whose reads and writes fail in
+//! turn, and of what it reads and writes by. All else that a call answers is tested by rows on the
+//! built program.
 #![tactic(auto)]
 
 #[cfg(test)]

@@ -1,5 +1,6 @@
-//! Lists of flips under at most two controls, from narrow gates and back: each flip goes out with the latest one like it that
-//! only flips free of it are behind, or stays; and what saves looks for such pairs.
+//! Lists of flips under at most two controls, from narrow gates and back: each flip goes out with
+//! the latest one like it that only flips free of it are behind, or stays; and what saves looks for
+//! such pairs.
 #![tactic(auto)]
 
 mod circuits;

@@ -48,8 +48,8 @@ struct Walk<'a> {
     only_toffolis: bool,
 }
 
-// From the last flip to the first one, each as near to the end as it can stand; then in the order of
-// these steps each as early as it can stand.
+// From the last flip to the first one, each as near to the end as it can stand; then in the order
+// of these steps each as early as it can stand.
 fn late_and_early(alloc: Global, lines: u32, walk: Walk<'_>) -> Result<Vec<u32>, Memory> {
     let late = late_steps(alloc, lines, walk)?;
     let turns = turns_by(alloc, &late)?;

@@ -165,11 +165,13 @@ IsSplit n limit gates (Err (NoIdle place)) = WantsIdle n limit gates place
 IsSplit n limit gates (Err Gates) = PassesLimit n limit gates
 IsSplit n limit gates (Err (Memory _)) = ⊥
 
--- the narrow circuit on n lines in place of wide gates, which does what they do; or exactly why not,
--- and want of memory only where there is a split list
-pub record Splits (n most : ℕ) (wide : List GateView) (result : Result CircuitView SplitFault) : Type 0 where
+-- the narrow circuit on n lines in place of wide gates, which does what they do; or exactly why
+-- not, and want of memory only where there is a split list
+pub record Splits (n most : ℕ) (wide : List GateView) (result : Result CircuitView SplitFault)
+    : Type 0 where
   pub gates : IfOk result (λ narrow. IsSplitList n most wide narrow.gates)
-  pub size : IfOk result (λ narrow. narrow ≡ record { lines = n; limit = most; gates = narrow.gates })
+  pub size : IfOk result (λ narrow.
+      narrow ≡ record { lines = n; limit = most; gates = narrow.gates })
   pub map : IfOk result (λ narrow. (bits : List Bool) → length bits ≡ n
       → line_map narrow.gates bits ≡ line_map wide bits)
   pub no_idle : (gate : ℕ) → IsErrOf result (NoIdle gate) → WantsIdle n most wide gate

@@ -33,8 +33,8 @@ pub record StatesView : Type 0 where
 abbrev pub all_sums : SumGraphView → List SumView
 all_sums g = g.nodes ++ g.outputs
 
--- how many of the first lines are given any bits: those of the inputs, and those of the outputs where
--- these may hold any
+-- how many of the first lines are given any bits: those of the inputs, and those of the outputs
+-- where these may hold any
 abbrev pub given_lines : Start → SumGraphView → ℕ
 given_lines Any g = first_work g
 given_lines Zero g = g.inputs
@@ -159,7 +159,8 @@ output_set Zero held output = output ∷ []
 
 -- that of the k-th one, behind so many inputs and nodes
 abbrev pub ended_set : Start → ℕ → ℕ → ℕ → List Base
-ended_set start inputs nodes k = output_set start (bases.Input (inputs + k)) (bases.Node (nodes + k))
+ended_set start inputs nodes k =
+    output_set start (bases.Input (inputs + k)) (bases.Node (nodes + k))
 
 -- each of n input lines holds its own input, each output line what it did and its output, which is
 -- counted behind so many nodes, and no work line anything

@@ -62,8 +62,8 @@ impl<'s> Model for LineStates<'s> {
 }
 
 impl<'s> LineStates<'s> {
-    /// No gates yet: each input line holds its input, each output line a bit of its own where it may
-    /// hold any, and else nothing, and there are no other lines.
+    /// No gates yet: each input line holds its input, each output line a bit of its own where it
+    /// may hold any, and else nothing, and there are no other lines.
     pub fn new(
         alloc: Global,
         graph: &'s SumGraph,

@@ -68,8 +68,8 @@ AreWrittenFor Pebble laid gates = gates ≡ laid
 -- These lines are those of a plan that the order asks for, and the gates are its gates as they are
 -- written. The plan is one of a settled graph of the tape: an eager one within the graph's eager
 -- numbers; a pebbling within the numbers of the largest block that fits, which comes without
--- `--plan` only where the eager numbers do not fit; or a plan of its lean graph, or the best of that
--- one and of what planners found, of few Toffoli gates.
+-- `--plan` only where the eager numbers do not fit; or a plan of its lean graph, of few Toffoli
+-- gates.
 pub record IsPlannedAs (order : OrderView) (tape : TapeView) (roles : Roles)
     (gates : List GateView) : Type 0 where
   pub graph : SettledView

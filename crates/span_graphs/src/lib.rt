@@ -1,5 +1,5 @@
-//! The graph whose nodes a span plan toggles, and the schedules by which it toggles them. It borrows
-//! nothing from the graph of sums that it comes from.
+//! The graph whose nodes a span plan toggles, and the schedules by which it toggles them. It
+//! borrows nothing from the graph of sums that it comes from.
 #![tactic(auto)]
 
 mod graph;

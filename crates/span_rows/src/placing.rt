@@ -94,8 +94,8 @@ impl Rows {
     }
 
     // Adds the row that has a symbol behind the head of a vector, where the vector gets shorter, or
-    // the symbol is a node's without products, which then is not wanted any more. To a free row only
-    // the row of that symbol alone is added.
+    // the symbol is a node's without products, which then is not wanted any more. To a free row
+    // only the row of that symbol alone is added.
     fn shorten_by(&self, work: &mut Work, placing: &mut Placing, symbol: u32) -> Option<Row> {
         let row = self.echelon.with_head(symbol)?;
         if placing.is_free() && self.echelon.vector(row).len() != 1 {
