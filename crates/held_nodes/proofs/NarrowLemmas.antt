@@ -41,7 +41,7 @@ narrow_toggles = record { toggled = toggled; finished = finished }
 -- the plan of a finished forward part of narrow gates
 pub narrow_plan : (s : SumGraphView) (b : BudgetView) (f : ForwardView) (made : Result PlannedView PlanFault) → IfOk made (λ p. p ≡ planned_of f)
     → AreNarrow (finished_gates f) → IfOk made (HasPorts s.inputs (length s.outputs))
-     → IfOk made (λ p. AddsOutputs Any (roles_of_plan p) p.circuit.gates (sum_outputs s))
+    → IfOk made (λ p. AddsOutputs Any (roles_of_plan p) p.circuit.gates (sum_outputs s))
     → IfOk made (IsInBudget b) → IfOk made (IsNarrowPlan Any s.inputs (length s.outputs) (sum_outputs s) b)
 narrow_plan s b f (Ok p) is narrow ports clean within = record {
   ports = ports;

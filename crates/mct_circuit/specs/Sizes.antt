@@ -66,7 +66,7 @@ gate_depth weigh gate [] = weigh gate
 gate_depth weigh gate (other ∷ earlier) =
     max
     (if share_a_line (lines_of gate) (lines_of other)
-      then weigh gate + gate_depth weigh other earlier
+    then weigh gate + gate_depth weigh other earlier
     else 0)
     (gate_depth weigh gate earlier)
 

@@ -8,7 +8,7 @@ use Rattle.line_states.proofs.ending.are_outputs.Goals as goal
 pub loop-k-preserved : goal.loop-k-preserved
 loop-k-preserved c =
     from_more (λ k (set : List Base). set ≡ ended_set c.args.ends.start c.args.ends.inputs c.args.ends.nodes k) 0
-         c.loop-k.k c.loop-k.k c.args.sets.now
+    c.loop-k.k c.loop-k.k c.args.sets.now
     c.index-sets-k.result (omega arith) c.loop-k-test.true c.loop-k.invariant
     (sym c.index-sets-k.is ∙ sym c.items.ensures ∙ c.is_output.ensures.0 c.if-not-is_output.false)
 

@@ -14,7 +14,7 @@ returns-clause-refused c =
     let s = c.args.graph.now in let b = c.args.budget.now in let p = c.in_ok-planned.planned in
     memory_wanted c.lay_narrow.result (IsPebblingFault s c.args.block b)
     (port_lines s b p (plain_ports s p (rw c.requires.plain at c.in_ok-planned.ensures.plan).ports)
-       c.in_ok-planned.ensures.plan.within.lines) c.lay_narrow.ensures.memory
+    c.in_ok-planned.ensures.plan.within.lines) c.lay_narrow.ensures.memory
 
 pub returns-clause-within : goal.returns-clause-within
 returns-clause-within c =

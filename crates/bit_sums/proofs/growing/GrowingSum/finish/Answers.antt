@@ -13,5 +13,5 @@ returns c =
     IsFinished s (record { bits = c.in_ok-rising.field-0.items; products = c.in_ok-products.products.items; one = c.self.inside.one })) c.self.view_is
     (finished (record { bits = c.self.inside.bits.items; products = c.self.inside.products.keys; one = c.self.inside.one }) c.in_ok-rising.field-0.items
     c.in_ok-products.products.items c.self.invariant (subst (λ (l : List Base). IsRisingOf l c.in_ok-rising.field-0.items)
-       c.deref.ensures.value c.in_ok-rising.ensures)
+    c.deref.ensures.value c.in_ok-rising.ensures)
     c.in_ok-products.ensures))
