@@ -93,10 +93,11 @@ any_start start l b laid row = record {
   gates = row_gates start l b laid row;
 }
 
-few_gates : (start : Start) (l : SumGraphView) (b : BudgetView) (laid : LaidView) (gates : ℕ) → IsRow l b laid → tried.AreFewBeside start laid gates
+few_gates : (start : Start) (l : SumGraphView) (b : BudgetView) (laid : LaidView) (gates : ℕ) → IsRow l b laid → tried.AreFewBeside start l laid gates
     → tried.HasFewGates start l b gates
-few_gates Any l b laid gates row twice = λ fits. (let few = row.gates in omega (arith, twice, few))
-few_gates Zero l b laid gates row twice = tt
+few_gates Any l b laid gates row (inl none) = λ fits. omega (arith, none)
+few_gates Any l b laid gates row (inr less) = λ fits. (let few = row.gates in omega (arith, less, few))
+few_gates Zero l b laid gates row beside = tt
 
 any_gates : (start : Start) (l : SumGraphView) (b : BudgetView) (gates : ℕ) → ¬ CoveringFits l b → tried.HasFewGates start l b gates
 any_gates Any l b gates none = λ fits. absurd (none fits)
@@ -112,7 +113,7 @@ fewer_gates Any l b more few less has = λ fits. (let gates = has fits in omega 
 fewer_gates Zero l b more few less has = tt
 
 pub most_of_row : (start : Start) (l : SumGraphView) (b : BudgetView) (laid : LaidView) (most : Most) → IsRow l b laid
-    → most.lines ≡ first_work l + length l.nodes + b.borrow → most.toffoli ≡ toffoli laid → tried.AreFewBeside start laid most.gates → IsMost start l b most
+    → most.lines ≡ first_work l + length l.nodes + b.borrow → most.toffoli ≡ toffoli laid → tried.AreFewBeside start l laid most.gates → IsMost start l b most
 most_of_row start l b laid most row lines same twice = record {
   lines = omega (arith, lines);
   toffoli = λ fits. (let few = row.products in omega (arith, same, few));

@@ -1,5 +1,5 @@
 -- Plans of a lean graph: why there is none, and what one costs.
-use Rattle.std.specs.Prelude.{ℕ, ◌+◌, ◌*◌, ◌≤◌, Bool, length}
+use Rattle.std.specs.Prelude.{ℕ, ◌+◌, ◌*◌, ◌≤◌, Bool, length, sum_by}
 use Rattle.bennett_pebbling.specs.Pebbling.{plain_weight}
 use Rattle.circuit_plans.specs.Plans.{BudgetView, LaidView}
 use Rattle.claim_check.specs.Settled.{SettledView}
@@ -7,6 +7,7 @@ use Rattle.dependency_graph.specs.Graphs.{ands_in}
 use Rattle.mct_circuit.specs.Sizes.{counts_of}
 use Rattle.sum_graph.specs.Graphs.{SumGraphView, first_work, products_in}
 use Rattle.sum_graph.specs.Lone.{GoToOneOutput, ands_beside}
+use Rattle.sum_toggles.specs.Toggles.{toggle_weight}
 
 -- a line for each node, and what two toggles of each node and one of each output weigh, are within
 -- the budget
@@ -18,11 +19,15 @@ pub record CoveringFits (l : SumGraphView) (b : BudgetView) : Type 0 where
 abbrev pub toffoli : LaidView → ℕ
 toffoli laid = (counts_of laid.circuit.gates).ccx
 
+-- what four toggles of each node and one of each output weigh
+abbrev pub covering_weight : SumGraphView → ℕ
+covering_weight l = 4 * sum_by toggle_weight l.nodes + sum_by toggle_weight l.outputs
+
 -- At most two Toffoli gates for each product of a node and one for each of an output, and no more
--- gates than twice what two toggles of each node and one of each output weigh.
+-- gates than four toggles of each node and one of each output weigh.
 pub record IsCovering (l : SumGraphView) (laid : LaidView) : Type 0 where
   pub products : toffoli laid ≤ 2 * products_in l.nodes + products_in l.outputs
-  pub gates : length laid.circuit.gates ≤ 2 * plain_weight l
+  pub gates : length laid.circuit.gates ≤ covering_weight l
 
 -- At most two Toffoli gates for each AND of the settled graph, and only one for each that goes to
 -- one output alone.

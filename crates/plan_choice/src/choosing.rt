@@ -10,6 +10,7 @@ ghost use Rattle.circuit_plans.specs.Plans.{HasPortLines, start_of};
 use crate::laying::{Tried, is_refused, lay_eager};
 use crate::lean::lay_lean;
 use crate::search::lay_pebbling;
+use bit_sums::MOST_FACTOR_BITS;
 use circuit_plans::{Budget, Laid, Plan, PlanFault, Start};
 use claim_check::Settled;
 use std::alloc::Global;
@@ -85,6 +86,6 @@ fn lean_plan(alloc: Global, graph: &Settled, budget: &Budget, start: Start) -> T
     ensures refused { IfErr result (IsChoiceFault Lean graph.now budget.now) }
     ensures refused_too { IfErr result (IsChoiceFault Compact graph.now budget.now) }
 {
-    let lean = SumGraph::lean(alloc, graph)?;
+    let lean = SumGraph::lean(alloc, graph, MOST_FACTOR_BITS)?;
     lay_lean(alloc, &lean, budget, start)
 }

@@ -1,17 +1,20 @@
 // The plans of a lean graph, laid: that of its row, and the best of those that planners find.
-ghost use Rattle.std.specs.Prelude.{◌≡◌, ◌⊎◌, ◌≤◌, length, IfErr, IfOk, IfSome, IsTrue, Ok};
+ghost use Rattle.std.specs.Prelude.{◌≡◌, ◌⊎◌, ◌+◌, ◌≤◌, length, sum_by, IfErr, IfOk, IfSome, IsTrue, Ok};
 ghost use Rattle.circuit_plans.specs.declared.plan.TheConstants.{MOST_GATES};
 ghost use Rattle.circuit_plans.specs.Plans.{HasPortLines, IsNarrowPlan};
 ghost use Rattle.plan_choice.specs.inside.Tried.{AreFewBeside, IsLaidLean, IsLeanFault, IsMost};
 ghost use Rattle.plan_choice.specs.inside.Tried.{IsRow, IsWithin};
 ghost use Rattle.sum_graph.specs.Graphs.{first_work, sum_outputs};
+ghost use Rattle.sum_toggles.specs.Toggles.{toggle_weight};
 
 use crate::laying::{Tried, lay_narrow};
 use crate::scripts::follow_moves;
+use bit_sums::Sum;
 use circuit_plans::{Budget, Laid, PlanFault, Planned, Size, Start};
 use plan_tools::Limits;
 use std::alloc::Global;
 use sum_graph::SumGraph;
+use sum_toggles::weight_within;
 
 // The best plan of a lean graph: that of its row, or one that a planner finds, where the output
 // lines may hold what `start` says. To add a planner is a line here.
@@ -77,7 +80,7 @@ fn most_of(lean: &SumGraph, budget: &Budget, start: Start, row: &Tried) -> Most
         Ok(laid) => Most {
             lines,
             toffoli: laid.circuit().counts().ccx,
-            gates: gates_beside(start, laid, limit),
+            gates: gates_beside(start, lean, laid, limit),
         },
         Err(PlanFault::Memory(_)) => Most {
             lines,
@@ -92,16 +95,30 @@ fn most_of(lean: &SumGraph, budget: &Budget, start: Start, row: &Tried) -> Most
     }
 }
 
-// Twice the gates of the row, where the output lines may hold any bits; the limit where they begin at
-// 0, since sums in place take many CX gates.
-fn gates_beside(start: Start, row: &Laid, limit: u64) -> u64
+// Twice the gates of the row less one toggle of each output, where the output lines may hold any
+// bits; the limit where they begin at 0, since sums in place take many CX gates.
+fn gates_beside(start: Start, lean: &SumGraph, row: &Laid, limit: u64) -> u64
     requires { limit ≤ MOST_GATES }
-    ensures { AreFewBeside start row.now result }
+    ensures { AreFewBeside start lean.now row.now result }
 {
     match start {
-        Start::Any => 2 * row.circuit().len().min(limit),
+        Start::Any => without_outputs(2 * row.circuit().len().min(limit), lean.outputs()),
         Start::Zero => limit,
     }
+}
+
+// So many gates less those of one toggle of each output, or none where there are not as many.
+fn without_outputs(gates: u64, outputs: &[Sum]) -> u64
+    ensures { (result ≡ 0) ⊎ (result + sum_by toggle_weight outputs.now ≤ gates) }
+{
+    let mut left = gates;
+    for sum in outputs {
+        let Some(weight) = weight_within(sum, left) else {
+            return 0;
+        };
+        left -= weight;
+    }
+    left
 }
 
 fn is_within(most: Most, laid: &Laid) -> bool

@@ -34,17 +34,17 @@ impl Model for SumGraph {
 
 impl SumGraph {
     /// The lean graph of a settled graph: only what has to stand on a line of its own is a node, a
-    /// value with a product in it, or of more than four bits, that is a factor or is used more than
-    /// once. In time near linear in the nodes and in the terms of their sums.
-    pub fn lean(alloc: Global, graph: &Settled) -> Result<SumGraph, Memory>
+    /// value with a product in it, or of more than `short` bits or four, that is a factor or is used
+    /// more than once. In time near linear in the nodes and in the terms of their sums.
+    pub fn lean(alloc: Global, graph: &Settled, short: usize) -> Result<SumGraph, Memory>
         ensures lean { IfOk result (IsLeanOf graph.now) }
         ensures keeps { IfOk result IsSumGraph }
     {
-        let mut walk = Walk::begun(alloc, graph)?;
+        let mut walk = Walk::begun(alloc, graph, short)?;
         walk.walk(alloc)?;
         let outputs = walk.outputs(alloc)?;
         let nodes = walk.into_nodes(alloc)?;
-        SumGraph::of_parts(alloc, graph.inputs(), nodes, outputs)
+        SumGraph::new(alloc, graph.inputs(), nodes, outputs)
     }
 
     /// The plain graph of a settled graph: each of its nodes is its own sum, with the operands in
@@ -55,11 +55,12 @@ impl SumGraph {
     {
         let nodes = plain_nodes(alloc, graph)?;
         let outputs = plain_outputs(alloc, graph.outputs())?;
-        SumGraph::of_parts(alloc, graph.inputs(), nodes, outputs)
+        SumGraph::new(alloc, graph.inputs(), nodes, outputs)
     }
 
-    // The graph of these nodes and outputs.
-    fn of_parts(
+    /// The graph of these nodes and outputs, each of whose sums is of inputs and earlier nodes. In
+    /// time linear in the bits.
+    pub fn new(
         alloc: Global,
         inputs: u32,
         nodes: Vec<Sum>,

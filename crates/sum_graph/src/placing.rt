@@ -12,12 +12,13 @@ use revc_base::Memory;
 use std::alloc::Global;
 
 /// The slot of the sum of a node: where the node is shared, a factor, which stands for a node of
-/// the lean graph unless the sum is short.
+/// the lean graph unless the sum is short, of so many bits at most.
 pub fn place(
     alloc: Global,
     nodes: &mut IndexSet<Sum>,
     sum: GrowingSum,
     shared: bool,
+    short: usize,
 ) -> Result<Slot, Memory>
     requires { length nodes.old.keys < MOST_WRITES }
     ensures { IfOk result (IsPlaced shared sum nodes.old.keys nodes.new.keys) }
@@ -26,7 +27,9 @@ pub fn place(
         return Ok(Slot::Sum(sum));
     }
     let sum = sum.finish()?;
-    if let Some(factor) = sum.factor()? {
+    if sum.bits().len() <= short
+        && let Some(factor) = sum.factor()?
+    {
         return Ok(Slot::Factor(factor));
     }
     let one = sum.one();

@@ -14,19 +14,20 @@ use indexmap::IndexSet;
 use revc_base::Memory;
 use std::alloc::Global;
 
-/// A settled graph, which of its nodes are shared, where the sums of the nodes so far stand, and
-/// the nodes of the lean graph.
+/// A settled graph, which of its nodes are shared, how many bits a short sum has at most, where the
+/// sums of the nodes so far stand, and the nodes of the lean graph.
 #[derive(Drop)]
 pub struct Walk<'s> {
     graph: &'s Settled,
     shared: Vec<bool>,
+    short: usize,
     slots: Vec<Slot>,
     nodes: IndexSet<Sum>,
 }
 
 impl<'s> Walk<'s> {
     /// No node was walked over.
-    pub fn begun(alloc: Global, graph: &'s Settled) -> Result<Walk<'s>, Memory>
+    pub fn begun(alloc: Global, graph: &'s Settled, short: usize) -> Result<Walk<'s>, Memory>
         ensures graph { IfOk result (λ walk. walk.graph.now ≡ graph.now) }
         ensures shared { IfOk result (λ walk.
             AreShared graph.now.nodes graph.now.outputs walk.shared.items) }
@@ -36,6 +37,7 @@ impl<'s> Walk<'s> {
         Ok(Walk {
             graph,
             shared: shared_nodes(alloc, graph)?,
+            short,
             slots: Vec::new(alloc),
             nodes: IndexSet::new(alloc),
         })
@@ -71,7 +73,13 @@ impl<'s> Walk<'s> {
             self.new.slots.items self.new.nodes.keys (k + 1)) }
     {
         let sum = sum_of(alloc, &mut self.slots, self.graph.node(k))?;
-        let slot = place(alloc, &mut self.nodes, sum, self.shared[k as usize])?;
+        let slot = place(
+            alloc,
+            &mut self.nodes,
+            sum,
+            self.shared[k as usize],
+            self.short,
+        )?;
         self.slots.push(slot)?;
         Ok(())
     }

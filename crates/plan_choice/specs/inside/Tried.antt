@@ -16,7 +16,8 @@ use Rattle.sum_graph.specs.Graphs.{SumGraphView, first_work, products_in, sum_ou
 use Rattle.plan_choice.specs.declared.lean.Most.{Most}
 use Rattle.plan_choice.specs.Blocks.{IsPebblingFault, extent_of}
 use Rattle.plan_choice.specs.Choices.{NoLargerFits}
-use Rattle.plan_choice.specs.Lean.{CoveringFits, toffoli}
+use Rattle.sum_toggles.specs.Toggles.{toggle_weight}
+use Rattle.plan_choice.specs.Lean.{CoveringFits, covering_weight, toffoli}
 
 -- whether there is no plan though memory was not wanting
 abbrev pub is_refusal : Result LaidView PlanFault → Bool
@@ -92,19 +93,22 @@ pub record IsRow (l : SumGraphView) (b : BudgetView) (laid : LaidView) : Type 0 
   pub products : toffoli laid ≤ 2 * products_in l.nodes + products_in l.outputs
   pub gates : length laid.circuit.gates ≤ plain_weight l
 
--- so many gates are at most twice those of the row, where it fits and the output lines may hold any
--- bits; of plans on lines that begin at 0 nothing is said
+-- so many gates are at most what four toggles of each node and one of each output weigh, where the
+-- row fits and the output lines may hold any bits; of plans on lines that begin at 0 nothing is said
 abbrev pub HasFewGates : Start → SumGraphView → BudgetView → ℕ → Type 0
-HasFewGates Any l b gates = CoveringFits l b → gates ≤ 2 * plain_weight l
+HasFewGates Any l b gates = CoveringFits l b → gates ≤ covering_weight l
 HasFewGates Zero l b gates = ⊤
 
--- so many gates are at most twice those of a plan, where the output lines may hold any bits
-abbrev pub AreFewBeside : Start → LaidView → ℕ → Type 0
-AreFewBeside Any laid gates = gates ≤ 2 * length laid.circuit.gates
-AreFewBeside Zero laid gates = ⊤
+-- so many gates, and one toggle of each output, are at most twice those of a plan, or there are
+-- none, where the output lines may hold any bits
+abbrev pub AreFewBeside : Start → SumGraphView → LaidView → ℕ → Type 0
+AreFewBeside Any l laid gates =
+    (gates ≡ 0) ⊎ (gates + sum_by toggle_weight l.outputs ≤ 2 * length laid.circuit.gates)
+AreFewBeside Zero l laid gates = ⊤
 
 -- The most that plans beside the row may have: its lines, and where it fits, its Toffoli gates, and
--- where the output lines may hold any bits, twice its gates.
+-- where the output lines may hold any bits, what four toggles of each node and one of each output
+-- weigh.
 pub record IsMost (start : Start) (l : SumGraphView) (b : BudgetView) (most : Most)
     : Type 0 where
   pub lines : most.lines ≤ first_work l + length l.nodes + b.borrow

@@ -12,14 +12,14 @@ is_done c =
     c.walk.ensures.graph c.inputs.ensures.inputs (c.in_ok-nodes.ensures ∙ c.outputs.ensures.nodes)
     c.in_ok-walk-2.ensures.walked c.in_ok-outputs.ensures.ended
 
-pub of_parts-requires : goal.of_parts-requires
-of_parts-requires c = (is_done (goal.at.of_parts-requires c).After-inputs).keeps
+pub new-requires : goal.new-requires
+new-requires c = (is_done (goal.at.new-requires c).After-inputs).keeps
 
 pub returns-clause-lean : goal.returns-clause-lean
 returns-clause-lean c =
     let lean = (is_done (goal.at.returns-clause-lean c).After-inputs).lean in
-    IfOk-weaker c.of_parts.result _ _ (λ graph is. subst (IsLeanOf c.args.graph.now) (sym is) lean) c.of_parts.ensures
+    IfOk-weaker c.new.result _ _ (λ graph is. subst (IsLeanOf c.args.graph.now) (sym is) lean) c.new.ensures
 
 pub returns-clause-keeps : goal.returns-clause-keeps
 returns-clause-keeps c =
-    IfOk-weaker c.of_parts.result _ _ (λ graph is. subst IsSumGraph (sym is) (is_done (goal.at.returns-clause-keeps c).After-inputs).keeps) c.of_parts.ensures
+    IfOk-weaker c.new.result _ _ (λ graph is. subst IsSumGraph (sym is) (is_done (goal.at.returns-clause-keeps c).After-inputs).keeps) c.new.ensures

@@ -7,14 +7,14 @@ use Rattle.sum_graph.proofs.graph.SumGraph.plain.Goals as goal
 pub returns-clause-plain : goal.returns-clause-plain
 returns-clause-plain c =
     let outputs = rw c.outputs.ensures.outputs at c.in_ok-outputs.ensures in
-    IfOk-weaker c.of_parts.result _ _ (λ graph is. is ∙ rw (c.inputs.ensures.inputs, c.in_ok-nodes.ensures, outputs) refl) c.of_parts.ensures
+    IfOk-weaker c.new.result _ _ (λ graph is. is ∙ rw (c.inputs.ensures.inputs, c.in_ok-nodes.ensures, outputs) refl) c.new.ensures
 
-pub of_parts-requires : goal.of_parts-requires
-of_parts-requires c =
+pub new-requires : goal.new-requires
+new-requires c =
     let outputs = rw c.outputs.ensures.outputs at c.in_ok-outputs.ensures in
     rw (c.inputs.ensures.inputs, c.in_ok-nodes.ensures, outputs) (plain_keeps c.args.graph.now c.outputs.ensures.settled)
 
 pub returns-clause-keeps : goal.returns-clause-keeps
 returns-clause-keeps c =
-    IfOk-weaker c.of_parts.result _ _ (λ graph is. subst IsSumGraph (sym is) (plain_keeps c.args.graph.now c.outputs.ensures.settled))
+    IfOk-weaker c.new.result _ _ (λ graph is. subst IsSumGraph (sym is) (plain_keeps c.args.graph.now c.outputs.ensures.settled))
     (returns-clause-plain c)

@@ -1,4 +1,4 @@
-use Rattle.sum_graph.proofs.graph.SumGraph.of_parts.Goals as goal
+use Rattle.sum_graph.proofs.graph.SumGraph.new.Goals as goal
 
 pub last_uses-requires : goal.last_uses-requires
 last_uses-requires c = rw c.deref.ensures.value c.requires.few_nodes
