@@ -1,7 +1,7 @@
 """A model of the plans of circuits: which gates each plan has for a program's graph, which plan is taken within a
 budget, and the numbers of lines and gates that are enough.
 
-It is written from docs/LANGUAGE.md and docs/COMMANDS.md, and shares nothing with the compiler. The lines of a circuit
+It is written from docs/LANGUAGE.md and docs/PLANS.md, and shares nothing with the compiler. The lines of a circuit
 are numbers: the inputs, the outputs, the work lines, and the borrowed lines. A base is an input's number, or the number
 of inputs and that of a node.
 """
