@@ -11,7 +11,7 @@ use command_answers::Fault;
 use name_scope::scope;
 use revs_lexer::tokens;
 use revs_parser::{MOST_BYTES, parse};
-use revs_run::unroll;
+use revs_run::run;
 use revs_tape::Tape;
 use revs_terms::Program;
 use std::alloc::Global;
@@ -45,5 +45,5 @@ fn tape_of_program(alloc: Global, program: Program) -> Result<Tape, TextFault>
         (λ text. LeavesNoTape text fault)) }
 {
     let scoped = scope(alloc, program)?;
-    Ok(unroll(alloc, &scoped)?)
+    Ok(run(alloc, &scoped)?)
 }

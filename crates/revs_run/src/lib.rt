@@ -15,4 +15,4 @@ mod terms;
 mod writes;
 
 pub use fault::RunFault;
-pub use program::unroll;
+pub use program::run;

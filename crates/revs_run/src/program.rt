@@ -29,17 +29,17 @@ use std::alloc::Global;
 ///
 /// A fault comes exactly where the run is stuck, with that cause and place, on every input; want of
 /// memory may come anywhere.
-pub fn unroll(alloc: Global, scoped: &Scoped) -> Result<Tape, RunFault>
+pub fn run(alloc: Global, scoped: &Scoped) -> Result<Tape, RunFault>
     ensures ok { IfOk result (λ tape. IsTapeOf scoped.now.program.params.items
         (tree_of scoped.now.program.body) tape) }
     ensures err { IfErr result (λ fault. IsRefused scoped.now.program.params.items
         (tree_of scoped.now.program.body) fault) }
 {
-    run(alloc, scoped.program())
+    tape_of(alloc, scoped.program())
 }
 
 // The run without bits.
-fn run(alloc: Global, program: &Program) -> Result<Tape, RunFault>
+fn tape_of(alloc: Global, program: &Program) -> Result<Tape, RunFault>
     ensures ok { IfOk result (λ tape. Leaves program.now.params.items
         (tree_of program.now.body) tape) }
     ensures err { IfErr result (λ fault. Says fault
