@@ -23,7 +23,7 @@ use Rattle.bit_sums.specs.Bits.{apart}
 use Rattle.bit_sums.specs.Products.{IsProduct}
 use Rattle.bit_sums.specs.Sums.{ProductView}
 use Rattle.bit_sums.specs.inside.Firsts.{IsFirst, found_before}
-use Rattle.bit_sums.specs.inside.Joins.{AreLong, CanJoin, Cross, HasFactors, IsJoined, LacksFactor, ShareFactor, product_cmp}
+use Rattle.bit_sums.specs.inside.Joins.{AreLong, CanJoin, Cross, HasFactors, IsJoined, CannotShare, ShareFactor, product_cmp}
 use Rattle.bit_sums.proofs.SetLemmas.{all-apart, base_total}
 
 -- ---- factors
@@ -57,17 +57,17 @@ none_so (Some x) f h = tt
 
 -- ---- the first rule
 
-pub lacks_second : (a c : List Base) (q : ProductView) → IsProduct q → c ≡ q.second → MOST_FACTOR_BITS < length (apart a q.first) → LacksFactor a c q
+pub lacks_second : (a c : List Base) (q : ProductView) → IsProduct q → c ≡ q.second → MOST_FACTOR_BITS < length (apart a q.first) → CannotShare a c q
 lacks_second a c q is same long = record {
   long = λ b h. subst (λ (l : List Base). MOST_FACTOR_BITS < length (apart a l)) (beside_second b c q is h same) long;
 }
 
-pub lacks_first : (a c : List Base) (q : ProductView) → IsProduct q → c ≡ q.first → MOST_FACTOR_BITS < length (apart a q.second) → LacksFactor a c q
+pub lacks_first : (a c : List Base) (q : ProductView) → IsProduct q → c ≡ q.first → MOST_FACTOR_BITS < length (apart a q.second) → CannotShare a c q
 lacks_first a c q is same long = record {
   long = λ b h. subst (λ (l : List Base). MOST_FACTOR_BITS < length (apart a l)) (beside_first b c q is h same) long;
 }
 
-pub lacks_both : (a c : List Base) (q : ProductView) → (c ≡ q.second → ⊥) → (c ≡ q.first → ⊥) → LacksFactor a c q
+pub lacks_both : (a c : List Base) (q : ProductView) → (c ≡ q.second → ⊥) → (c ≡ q.first → ⊥) → CannotShare a c q
 lacks_both a c q not_second not_first = record {
   long = λ b h. elim (one_of_both b c q h) [ inl e ↦ absurd (not_second (sym e)) | inr e ↦ absurd (not_first (sym e)) ];
 }
@@ -76,7 +76,7 @@ no_few : (n : ℕ) → MOST_FACTOR_BITS < n → n ≤ MOST_FACTOR_BITS → ⊥
 no_few n long few = omega arith
 
 -- neither factor is shared so
-pub none_shared : (p q : ProductView) → LacksFactor p.first p.second q → LacksFactor p.second p.first q → ¬ ShareFactor p q
+pub none_shared : (p q : ProductView) → CannotShare p.first p.second q → CannotShare p.second p.first q → ¬ ShareFactor p q
 none_shared p q second first s = shared s.a s.b s.c s.first s.second s.few where
   shared : (a b c : List Base) → HasFactors a c p → HasFactors b c q → length (apart a b) ≤ MOST_FACTOR_BITS → ⊥
   shared a b c (inl e) hq few =

@@ -155,7 +155,7 @@ impl GrowingSum {
         Ok(())
     }
 
-    /// The sum as it stands: its bits rise, its products are in order.
+    /// The sum as it stands, of as many products: its bits rise.
     pub fn finish(self) -> Result<Sum, Memory>
         ensures { IfOk result (IsFinished self) }
     {

@@ -6,7 +6,7 @@ ghost use Rattle.dependency_graph.specs.Folds.{is_same};
 ghost use Rattle.bit_sums.specs.Bits.{AreRising, HasOwn, apart};
 ghost use Rattle.bit_sums.specs.Products.{IsFactor, IsProduct, IsProductOf};
 ghost use Rattle.bit_sums.specs.inside.Joins.{AreLong, CanJoin, Cross, HasFactors, IsCrossing};
-ghost use Rattle.bit_sums.specs.inside.Joins.{IsJoined, IsShared, LacksFactor, ShareFactor};
+ghost use Rattle.bit_sums.specs.inside.Joins.{IsJoined, IsShared, CannotShare, ShareFactor};
 ghost use Rattle.bit_sums.specs.inside.Joins.{product_cmp};
 ghost use Rattle.bit_sums.specs.inside.Steps.{AreApart, IsCrossed, IsFactored, IsWithin};
 ghost use Rattle.bit_sums.specs.inside.Steps.{JoinsFactors};
@@ -184,7 +184,7 @@ fn by_factor(alloc: Global, a: &[Base], c: &[Base], q: &Product) -> Result<Optio
     requires c { IsFactor c.now }
     ensures some { IfOk result (λ found. IfSome found (λ part.
         JoinsFactors a.now c.now q.now part.bits.items part.product)) }
-    ensures none { IfOk result (λ found. IfNone found (LacksFactor a.now c.now q.now)) }
+    ensures none { IfOk result (λ found. IfNone found (CannotShare a.now c.now q.now)) }
 {
     let (b, d) = (q.first(), q.second());
     if c == d {

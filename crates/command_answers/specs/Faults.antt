@@ -3,7 +3,7 @@ use Rattle.std.specs.Prelude.{ℕ, ◌⊎◌, Bool, List, ◌++◌, Option, code
 use Rattle.std.specs.Fmt.{decimal}
 use Rattle.revc_base.specs.declared.place.Place.{Place}
 use Rattle.revc_io.specs.Faults.{Rose}
-use Rattle.revc_io.specs.Held.{Held, Took, TookFront}
+use Rattle.revc_io.specs.Held.{Held, IsFlushed, Took, TookFront}
 use Rattle.revs_terms.specs.Causes.{cause_word}
 use Rattle.command_answers.specs.Lines.{digits_of}
 use Rattle.command_answers.specs.declared.fault.Fault.{Fault}
@@ -136,8 +136,8 @@ line_of Read = codes "revc: read fault\n"
 line_of Write = codes "revc: write fault\n"
 line_of (Memory _) = codes "revc: out of memory\n"
 
--- the sink received the whole line, and holds nothing back, or a prefix of it where its count of
--- faults rose
+-- the sink received the whole line, and holds nothing back, where it tells that; or a prefix of it
+-- where its count of faults rose
 abbrev pub Receives : Held → Held → ℕ → ℕ → List ℕ → Type 0
 Receives old new before now line =
-    (Took old new line × new.flushed) ⊎ (Rose before now × TookFront old new line)
+    (Took old new line × IsFlushed new) ⊎ (Rose before now × TookFront old new line)

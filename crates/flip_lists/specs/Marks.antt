@@ -1,4 +1,7 @@
 -- What is noted of the lines of a change, and which flips can come to it.
+--
+-- A block was replaced at one place. Going on from there, flips are passed over. A flip that was
+-- passed over stops a later one where the target of one is a control of the other.
 use Rattle.std.specs.Prelude.{◌≡◌, ◌≢◌, ℕ, ◌-◌, Bool, true, false, not, ◌==◌, ◌&&◌, ◌||◌, if◌then◌else◌, List, [], ◌∷◌, ◌++◌}
 use Rattle.std.specs.Prelude.{slice_index, slice_set, bit_and, bit_or, drop, nat_lt}
 use Rattle.std.specs.List.{count_by, filter, fold, list_any}
@@ -26,29 +29,32 @@ abbrev pub touches_open : List ℕ → Flip → Bool
 touches_open words flip =
     is_marked words OPEN flip.target || is_any_marked words OPEN (controls_of flip)
 
--- a flip that was passed over stops it
+-- a flip that was passed over stops it from moving back to the block
 abbrev pub is_stopped : List ℕ → Flip → Bool
 is_stopped words flip =
     is_marked words CONTROL flip.target || is_any_marked words TARGET (controls_of flip)
 
--- a flip that went had stopped it
+-- a flip that went out used to stop it
 abbrev pub is_freed : List ℕ → Flip → Bool
 is_freed words flip =
     is_marked words FREED_TARGET flip.target || is_any_marked words FREED_CONTROL (controls_of flip)
 
--- it is a CX on lines of new flips
+-- it is a CX between two lines of the new block
 abbrev pub is_on_new : List ℕ → Flip → Bool
 is_on_new words flip =
     is_cx flip && (is_any_marked words NEW (controls_of flip) && is_marked words NEW flip.target)
 
--- nothing stops it, and it was freed or is on new lines
+-- no flip that was passed over stops it from moving back to the block, and either a flip that went
+-- out used to stop it, or it is a CX between two lines of the new block
 abbrev pub may_come : List ℕ → Flip → Bool
 may_come words flip =
     not (is_stopped words flip) && (is_freed words flip || is_on_new words flip)
 
 -- ---- how a word changes
 
--- a flip of the line behind those that were passed over can come to the change
+-- a flip may come whose target, or a control, is the line of this word: as target it was stopped by
+-- a flip that went out, and none that was passed over stops it; or as a control; or the line is one
+-- of the new block, and those that were passed over do not have it both as target and as a control
 abbrev pub lets_come : ℕ → Bool
 lets_come word =
     (has word FREED_TARGET && not (has word CONTROL))
@@ -102,6 +108,7 @@ with_freed notes flip =
 abbrev pub with_new : Notes → Flip → Notes
 with_new notes flip = noted NEW NEW true flip (listed (flip.target ∷ controls_of flip) notes)
 
+-- the flip is passed over
 abbrev pub with_passed : Notes → Flip → Notes
 with_passed notes flip = noted TARGET CONTROL false flip notes
 

@@ -15,6 +15,10 @@ nearest spans = slice_get spans (length spans - 1)
 abbrev pub last_end : List Span → ℕ
 last_end spans = end_of (nearest spans)
 
+-- the nearest one, if it does not end before the place
+abbrev pub nearest_from : ℕ → List Span → Option Span
+nearest_from place spans = if nat_lt (last_end spans) place then None else nearest spans
+
 -- how long a span is that begins at the place, or 0
 abbrev pub length_from : ℕ → Option Span → ℕ
 length_from place None = 0

@@ -1,7 +1,7 @@
 // Where a walk need not look again. No contract rests on it: it saves looks at blocks.
-ghost use Rattle.std.specs.Prelude.{◌≡◌, ◌<◌, ◌++◌, ◌∷◌, [], None, option_to_list, OnOk};
+ghost use Rattle.std.specs.Prelude.{◌≡◌, ◌++◌, ◌∷◌, [], option_to_list, OnOk};
 ghost use Rattle.flip_lists.specs.Spans.{DropsBefore, IsClosed, IsOpened};
-ghost use Rattle.flip_lists.specs.Spans.{closed, last_end, length_from, nearest, opened};
+ghost use Rattle.flip_lists.specs.Spans.{closed, last_end, length_from, nearest, nearest_from, opened};
 
 use revc_base::Memory;
 use std::alloc::Global;
@@ -52,7 +52,7 @@ impl Spans {
 
     /// Takes the nearest one, if it does not end before a place.
     pub fn pop_from(&mut self, place: usize) -> Option<Span>
-        ensures none { last_end self.old.spans.items < place → result ≡ None }
+        ensures nearest { result ≡ nearest_from place self.old.spans.items }
         ensures cut { self.old.spans.items ≡ self.new.spans.items ++ option_to_list result }
     {
         if self.last_end() < place {

@@ -19,10 +19,11 @@ const SHARES: u32 = 6;
 // How many depths of pebbling are tried.
 const DEPTHS: u32 = 24;
 
-/// The moves of the best plan that is found of those that keep each node on a line of its own, by
-/// its Toffoli gates, then by lines times gates, then by lines. With `homes`, some nodes stand on
-/// the lines of outputs, which hold 0 in the beginning; without, these may hold anything: what
-/// comes to them are the outputs alone. It has at most a line for each input, output and node.
+/// The moves of a plan that keeps each node on a line of its own: of those that are tried the best
+/// by its Toffoli gates, then by lines times gates, then by lines, which no clause says. With
+/// `homes`, some nodes stand on the lines of outputs, which hold 0 in the beginning; without, these
+/// may hold anything: what comes to them are the outputs alone. It has at most a line for each
+/// input, output and node.
 ///
 /// # Errors
 ///

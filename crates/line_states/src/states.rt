@@ -95,7 +95,7 @@ impl<'s> LineStates<'s> {
         self.sets.len() as u32
     }
 
-    /// The set of a line, whose bits rise. It takes no memory.
+    /// The set of a line. It takes no memory.
     pub fn set(&self, line: u32) -> &[Base]
         requires { line < length self.now.sets }
         ensures { result.now ≡ set_at self.now.sets line }

@@ -1,5 +1,7 @@
 // What a table may take.
 ghost use Rattle.std.specs.Prelude.{◌≡◌, ◌+◌, ◌^◌, ◌<◌, true};
+ghost use Rattle.product_sums.specs.Limits.{LimitsAre};
+ghost use Rattle.product_sums.specs.inside.Spending.{StopsPastLimit};
 
 use crate::ProductsFault;
 
@@ -12,6 +14,11 @@ const MOST_STEPS: u64 = 1 << 34;
 const ATOMS_FOR_EACH: u32 = 4;
 
 const ATOMS_BESIDES: u32 = 4096;
+
+/// The limits are these numbers. The function does nothing: its contract is the law.
+pub fn limits_are()
+    ensures { LimitsAre }
+{}
 
 // Words held and steps taken, and how many atoms there may be.
 #[derive(Clone, Copy)]
@@ -32,7 +39,9 @@ impl Budget {
     }
 
     // Takes some steps, and one more.
-    pub fn spend(&mut self, steps: usize) -> Result<(), ProductsFault> {
+    pub fn spend(&mut self, steps: usize) -> Result<(), ProductsFault>
+        ensures { StopsPastLimit result self.new }
+    {
         self.steps = self.steps.saturating_add(steps as u64).saturating_add(1);
         if self.steps > MOST_STEPS || self.words > MOST_WORDS {
             return Err(ProductsFault::Limit);

@@ -16,5 +16,6 @@ mod marks;
 mod products;
 mod search;
 
+pub use budget::limits_are;
 pub use fault::ProductsFault;
 pub use products::Products;

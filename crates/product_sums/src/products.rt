@@ -47,7 +47,8 @@ impl Products {
         }
     }
 
-    /// From here on at most 4 atoms are made for each product that is known now, and 4,096 more.
+    /// Asks that from here on at most 4 atoms are made for each product that is known now, and
+    /// 4,096 more. What is known stays.
     pub fn limit_atoms(&mut self)
         ensures { self.new ≡ self.old }
     {

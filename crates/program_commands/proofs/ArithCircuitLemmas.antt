@@ -31,10 +31,13 @@ no_product e = absurd cc
 
 pub usual_within : (format : Format) → IsWithinLimits (compile_order format)
 usual_within format = record {
+  some_lines = omega arith;
   lines = omega arith;
+  some_gates = omega arith;
   gates = omega arith;
   borrow = omega arith;
   nodes = omega arith;
+  few_nodes = omega arith;
   few_bits = omega arith;
   some_bits = tt;
   some_factor = λ e. absurd (no_product e);

@@ -2,7 +2,7 @@
 use Rattle.std.proofs.Common.{◌≡◌, ℕ, ◌+◌, ◌<◌, inl, inr, List, Some, Ok, Err, replicate, refl, sym, ap, ◌∙◌, subst, arith, length}
 use Rattle.std.specs.Prelude.{◌⊎◌, ◌↔◌, ◌≢◌, Option, IfSome, Result, IsErrOf, IsErrAnd}
 use Rattle.std.proofs.lemmas.List.{length-replicate}
-use Rattle.revc_io.specs.Held.{Held, Took, TookFront}
+use Rattle.revc_io.specs.Held.{Held, IsFlushed, Took, TookFront}
 use Rattle.revc_io.specs.declared.reading.ReadFault.{ReadFault}
 use Rattle.revc_io.specs.declared.reading.ReadFault.TheVariants as reading
 use Rattle.command_answers.specs.declared.fault.Fault.{Fault}
@@ -196,7 +196,7 @@ not_prepared run order items lent fault is law r lends h same written_well = eli
 
 pub written : (run : Run) (order : OrderView) (items lent bytes : List ℕ) → IsOrder run.words order → HasOneOutcome (promise_of order.command)
     → IsReadFrom (reads_of order) run.source items → lent ≡ items → Gives order lent bytes → Took run.out.old run.out.new bytes
-    → run.out.new.flushed → IsCalm run.out → Succeeds run
+    → IsFlushed run.out.new → IsCalm run.out → Succeeds run
 written run order items lent bytes is law r lends gives took flushed written_well =
     let told = text_told (reads_of order) run.source.old.bytes in
     let given : IfSome told (λ text. Gives order text bytes) = of_read told lent items (λ text. Gives order text bytes) lends r.told gives in

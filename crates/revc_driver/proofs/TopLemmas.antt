@@ -35,11 +35,11 @@ rests order text Write on cause = absurd (on.no_write refl)
 rests order text (Memory _) on cause = absurd (on.no_memory refl)
 rests order text fault on cause = cause
 
--- a sink that surely takes what the order gives takes it
+-- a sink that promises to take what the order gives takes it
 surely_taken : (run : Run) (fault : Fault) → Fails run fault → ¬ Rises run.source
     → HoldsOfOrder run (λ order text. IsSureOf (Gives order text) run.out → EndsWell order text (status_of fault))
 surely_taken run Write f calm = served run (λ order text. GrowsByPrefix (Gives order text) run.out) _
-    (λ order text begun sure. absurd (begun.took.unsure _ (omega arith) (sure.each begun.bytes begun.is))) (f.begins refl)
+    (λ order text begun sure. absurd (begun.took.unpromised _ (omega arith) (sure.each begun.bytes begun.is))) (f.begins refl)
 surely_taken run fault f calm = served run (λ order text. EndsWell order text (status_of fault)) _ (λ order text ends sure. ends)
     (f.completes (λ e. calm (f.read_fault e)) (λ e. absurd cc))
 

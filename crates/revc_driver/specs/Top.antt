@@ -2,7 +2,7 @@
 use Rattle.std.specs.Prelude.{◌≡◌, ◌≢◌, ℕ, ◌+◌, ◌≤◌, Option, None, IfSome, List, ◌⊎◌, Contains, length}
 use Rattle.std.specs.Io.KnownBytes.{IsAtEnd}
 use Rattle.revc_io.specs.Faults.{Rose}
-use Rattle.revc_io.specs.Held.{Held, Took, TookFront, bytes_alone}
+use Rattle.revc_io.specs.Held.{Held, IsFlushed, Took, TookFront, bytes_alone}
 use Rattle.revc_io.specs.Reading.{TakesCount}
 use Rattle.command_answers.specs.declared.fault.Fault.{Fault}
 use Rattle.command_answers.specs.declared.limit.TextLimit.{TextLimit}
@@ -58,23 +58,24 @@ pub record HoldsOfOrder (run : Run) (P : OrderView → List ℕ → Type 0) : Ty
 
 -- ---- what is written
 
--- the bytes that a sink took have this property, and it holds none of them back
+-- the bytes that a sink took have this property, and it holds none of them back, where it tells
+-- that
 pub record Grows (P : List ℕ → Type 0) (out : Device) : Type 0 where
   pub bytes : List ℕ
   pub is : P bytes
   pub took : Took out.old out.new bytes
-  pub flushed : out.new.flushed
+  pub flushed : IsFlushed out.new
 
--- the bytes that a sink took are a prefix of some that have this property, which it did not surely
--- take
+-- the bytes that a sink took are a prefix of some that have this property, for which it had
+-- promised no room
 pub record GrowsByPrefix (P : List ℕ → Type 0) (out : Device) : Type 0 where
   pub bytes : List ℕ
   pub is : P bytes
   pub took : TookFront out.old out.new bytes
 
--- the sink surely takes whatever has this property
+-- the sink promises to take whatever has this property
 pub record IsSureOf (P : List ℕ → Type 0) (out : Device) : Type 0 where
-  pub each : (bytes : List ℕ) → P bytes → out.old.takes (length bytes)
+  pub each : (bytes : List ℕ) → P bytes → out.old.promises (length bytes)
 
 -- the sink received the line of a fault with this status
 pub record Reports (status : ℕ) (err : Device) : Type 0 where
@@ -163,7 +164,7 @@ pub record Answers (run : Run) (err : Device) (status : ℕ) : Type 0 where
   -- where the order serves, success comes, unless a device or memory is wanting
   pub completes : ¬ Rises run.source → ¬ Rises run.out
       → HoldsOfOrder run (λ order text. EndsWell order text status)
-  -- so it does where the source does not fail, and the sink surely takes what the order gives
+  -- so it does where the source does not fail, and the sink promises to take what the order gives
   pub surely : ¬ Rises run.source → HoldsOfOrder run (λ order text.
       IsSureOf (Gives order text) run.out → EndsWell order text status)
   -- 9 comes only where the source failed, and 10 only where the sink did; at each other status it

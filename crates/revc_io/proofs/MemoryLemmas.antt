@@ -1,4 +1,4 @@
--- What a sink in memory surely takes, behind a call that did not fail.
+-- What a sink in memory promises, behind a call that did not fail.
 use Rattle.std.proofs.Common.{◌≡◌, ℕ, ◌++◌, List, true, false, refl, sym, subst, arith, length-append}
 use Rattle.revc_io.specs.Held.{HandedOn, Took}
 use Rattle.revc_io.specs.Memory.{CallsView, FailsNoMore, SinkView, counted, held_by}
@@ -12,7 +12,7 @@ pub written : (old new : SinkView) (front : List ℕ) → new ≡ record old { h
 written old new front after =
     subst (λ (sink : SinkView). Took (held_by old) (held_by sink) front) (sym after) (record {
       grown = refl;
-      lasts = λ more takes. record { room = omega (arith, takes.room, length-append old.held front); calm = still_none old.calls takes.calm };
+      lasts = λ more promised. record { room = omega (arith, promised.room, length-append old.held front); calm = still_none old.calls promised.calm };
     })
 
 -- nothing was held back
@@ -20,6 +20,6 @@ pub flushed : (old new : SinkView) → new ≡ record old { flushed = true; call
 flushed old new after =
     subst (λ (sink : SinkView). HandedOn (held_by old) (held_by sink)) (sym after) (record {
       kept = refl;
-      lasts = λ more takes. record { room = takes.room; calm = still_none old.calls takes.calm };
+      lasts = λ more promised. record { room = promised.room; calm = still_none old.calls promised.calm };
       flushed = refl;
     })

@@ -10,12 +10,12 @@ use Rattle.revc_io.specs.Passing.{Gathered, Gathers, Sends, Writes}
 -- ---- what a sink took
 
 pub took_nothing : (old : Held) → Took old old []
-took_nothing old = record { grown = Appends-nil old.bytes; lasts = λ more takes. subst old.takes (omega arith) takes }
+took_nothing old = record { grown = Appends-nil old.bytes; lasts = λ more promised. subst old.promises (omega arith) promised }
 
 pub took_more : {old now new : Held} {first then : List ℕ} → Took old now first → Took now new then → Took old new (first ++ then)
 took_more {old} {now} {new} {first} {then} p q = record {
   grown = Appends-trans old.bytes now.bytes new.bytes first then p.grown q.grown;
-  lasts = λ more takes. q.lasts more (p.lasts (length then + more) (subst old.takes (omega (arith, length-append first then)) takes));
+  lasts = λ more promised. q.lasts more (p.lasts (length then + more) (subst old.promises (omega (arith, length-append first then)) promised));
 }
 
 -- it took a part of a text, and then a front of a part behind it
@@ -27,11 +27,11 @@ fell_short {old} {now} {new} {first} {part} whole left e p q = record {
   parts = e ∙ ap (λ (l : List ℕ). first ++ (l ++ left)) q.parts ∙ ap (λ (l : List ℕ). first ++ l) (append_assoc q.front q.behind left)
       ∙ sym (append_assoc first q.front (q.behind ++ left));
   grown = Appends-trans old.bytes now.bytes new.bytes first q.front p.grown q.grown;
-  unsure = λ enough low takes.
+  unpromised = λ room low promised.
       let long : length whole ≡ length first + (length part + length left) =
       omega (arith, ap length e, length-append first (part ++ left), length-append part left) in
-      let same : enough ≡ length first + (enough - length first) = omega (arith, long, low) in
-      q.unsure (enough - length first) (omega (arith, long, low)) (p.lasts (enough - length first) (subst old.takes same takes));
+      let same : room ≡ length first + (room - length first) = omega (arith, long, low) in
+      q.unpromised (room - length first) (omega (arith, long, low)) (p.lasts (room - length first) (subst old.promises same promised));
 }
 
 -- it took a part of a text, and then nothing
@@ -42,10 +42,10 @@ stopped_short {old} {now} {first} new whole left e p q = record {
   behind = left;
   parts = e;
   grown = Appends-kept old.bytes now.bytes new.bytes first p.grown q.kept;
-  unsure = λ enough low takes.
+  unpromised = λ room low promised.
       let long : length whole ≡ length first + length left = omega (arith, ap length e, length-append first left) in
-      let same : enough ≡ length first + (enough - length first) = omega (arith, long, low) in
-      q.unsure (enough - length first) (omega (arith, long, low)) (p.lasts (enough - length first) (subst old.takes same takes));
+      let same : room ≡ length first + (room - length first) = omega (arith, long, low) in
+      q.unpromised (room - length first) (omega (arith, long, low)) (p.lasts (room - length first) (subst old.promises same promised));
 }
 
 -- a text on its way: a front of it was sent, some of it waits in a buffer, and the rest is left to be written
@@ -164,7 +164,10 @@ finish_call new (Err e) put so_far = finish_failed put so_far
 pub flush_call : {T E : Type 0} {old now : Held} {bytes : List ℕ} (new : Held) (result : Result T E) → Flushes result now new → Took old now bytes
     → Writes result old new bytes
 flush_call {old = old} {now} {bytes} new (Ok x) flush sent = (
-  record { grown = Appends-kept old.bytes now.bytes new.bytes bytes sent.grown flush.kept; lasts = λ more takes. flush.lasts more (sent.lasts more takes) },
+  record {
+    grown = Appends-kept old.bytes now.bytes new.bytes bytes sent.grown flush.kept;
+    lasts = λ more promised. flush.lasts more (sent.lasts more promised);
+  },
   flush.flushed,
 )
 flush_call {bytes = bytes} new (Err e) flush sent = stopped_short new bytes [] (sym (append-nil bytes)) sent flush

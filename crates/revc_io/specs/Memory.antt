@@ -1,5 +1,5 @@
 -- Sources and sinks in memory, as contracts see them.
-use Rattle.std.specs.Prelude.{◌≡◌, ℕ, ◌+◌, ◌-◌, ◌^◌, ◌<◌, ◌≤◌, min, Bool, IsTrue, List, length, Contains, Some}
+use Rattle.std.specs.Prelude.{◌≡◌, ℕ, ◌+◌, ◌-◌, ◌^◌, ◌<◌, ◌≤◌, min, Bool, List, length, Contains, Some}
 use Rattle.revc_io.specs.Faults.{raised}
 use Rattle.revc_io.specs.Held.{Held}
 
@@ -67,8 +67,8 @@ pub record SurelyTakes (sink : SinkView) (count : ℕ) : Type 0 where
 abbrev pub held_by : SinkView → Held
 held_by sink = record {
   bytes = Some sink.held;
-  takes = SurelyTakes sink;
-  flushed = IsTrue sink.flushed;
+  promises = SurelyTakes sink;
+  flushed = Some sink.flushed;
 }
 
 -- how many bytes of a piece of this length a call takes: as many as `most`, the piece and the room

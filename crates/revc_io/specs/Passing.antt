@@ -1,16 +1,17 @@
 -- What calls in a row do to a sink.
 use Rattle.std.specs.Prelude.{◌≡◌, ℕ, List, [], ◌++◌, Result, MatchResult}
-use Rattle.revc_io.specs.Held.{Held, Took, TookFront}
+use Rattle.revc_io.specs.Held.{Held, IsFlushed, Took, TookFront}
 
 -- these bytes were sent to a sink: all of them at `Ok`, a front of them at `Err`
 abbrev pub Sends : {T E : Type 0} → Result T E → Held → Held → List ℕ → Type 0
 Sends result old new bytes = MatchResult result
     (λ _. Took old new bytes) (λ _. TookFront old new bytes)
 
--- a writer of these bytes: they were sent, and at `Ok` none of them is held back
+-- a writer of these bytes: they were sent, and at `Ok` none of them is held back, where the sink
+-- tells that
 abbrev pub Writes : {T E : Type 0} → Result T E → Held → Held → List ℕ → Type 0
 Writes result old new bytes = MatchResult result
-    (λ _. Took old new bytes × new.flushed) (λ _. TookFront old new bytes)
+    (λ _. Took old new bytes × IsFlushed new) (λ _. TookFront old new bytes)
 
 -- the bytes that waited, and then the piece: some went on to the sink, and the others wait behind
 -- them

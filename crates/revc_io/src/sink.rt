@@ -7,8 +7,8 @@ use crate::Failed;
 
 /// Where bytes go.
 pub trait Sink {
-    // The bytes that it took, where the sink tells them; how many more it surely takes; and whether
-    // it holds none of them back.
+    // The bytes that it took, where the sink tells them; how many more it promises to take; and
+    // whether it holds none of them back, where it tells that.
     ghost held: { Self → Held };
 
     // How many times it failed, from 0 to 2^64 - 1, where the count stays.
@@ -16,7 +16,7 @@ pub trait Sink {
 
     /// Takes a front of `piece`, which is not empty, and answers how many bytes that is, at least
     /// 1. Where it fails, it took none and the count of faults rose; else the count stays. It fails
-    /// only where it did not surely take the whole piece.
+    /// only where it had promised no room for the whole piece.
     fn write(&mut self, piece: &[u8]) -> Result<usize, Failed>
         requires { 0 < length piece.now }
         ensures bound { WritesAtMost result piece.now }
@@ -26,7 +26,7 @@ pub trait Sink {
 
     /// Hands on what the sink itself may hold back. It takes no bytes. Where it fails, the count of
     /// faults rose; else the count stays, and nothing is held back. It fails only where the sink
-    /// did not surely take anything.
+    /// had promised nothing.
     fn flush(&mut self) -> Result<(), Failed>
         ensures bytes { Flushes result (held self.old) (held self.new) }
         ensures cause { HasCause (faults self.old) (faults self.new) result };

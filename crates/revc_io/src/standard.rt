@@ -40,7 +40,8 @@ impl<R: Read> Source for StdSource<R> {
 
 /// A sink over any writer of the standard library. It raises its count of faults at each error of
 /// the writer, and where the writer took nothing of a piece that is not empty. It tells its bytes
-/// where the writer does, and nothing else: no byte is surely taken.
+/// where the writer does, and nothing else: it promises to take no byte, and does not tell whether
+/// it holds bytes back.
 #[derive(Drop)]
 pub struct StdSink<W> {
     inner: W,

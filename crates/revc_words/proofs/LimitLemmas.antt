@@ -67,10 +67,13 @@ small_factor by (Some word) is = is.most_is
 
 pub orders_are_within_limits : OrdersAreWithinLimits
 orders_are_within_limits words order is = record {
+  some_lines = (within 1 MOST_LINES USUAL_LINES order.lines (value_of (codes "lines") is.given) (omega arith) (omega arith) is.lines).0;
   lines = (within 1 MOST_LINES USUAL_LINES order.lines (value_of (codes "lines") is.given) (omega arith) (omega arith) is.lines).1;
+  some_gates = (within 1 MOST_GATES USUAL_GATES order.gates (value_of (codes "gates") is.given) (omega arith) (omega arith) is.gates).0;
   gates = (within 1 MOST_GATES USUAL_GATES order.gates (value_of (codes "gates") is.given) (omega arith) (omega arith) is.gates).1;
   borrow = (within 0 MOST_BORROWED 0 order.borrow (value_of (codes "borrow") is.given) (omega arith) (omega arith) is.borrow).1;
   nodes = (within 1 MOST_NODES USUAL_NODES order.nodes (value_of (codes "nodes") is.given) (omega arith) (omega arith) is.nodes).0;
+  few_nodes = (within 1 MOST_NODES USUAL_NODES order.nodes (value_of (codes "nodes") is.given) (omega arith) (omega arith) is.nodes).1;
   few_bits = few_bits (takes_of order.command) is.given is.plain (taken_of order) is.takes;
   some_bits = some_bits (takes_of order.command) is.given is.plain (taken_of order) is.takes;
   some_factor = λ multiplies. asked_factor order.command is.given is.plain (taken_of order) order.by is.takes is.by multiplies;

@@ -332,10 +332,13 @@ HasNumber KindAndNumber number = 1 ≤ number
 
 -- the numbers of an order are within their limits
 pub record IsWithinLimits (order : OrderView) : Type 0 where
+  pub some_lines : 1 ≤ order.lines
   pub lines : order.lines ≤ MOST_LINES
+  pub some_gates : 1 ≤ order.gates
   pub gates : order.gates ≤ MOST_GATES
   pub borrow : order.borrow ≤ MOST_BORROWED
   pub nodes : 1 ≤ order.nodes
+  pub few_nodes : order.nodes ≤ MOST_NODES
   pub few_bits : order.number ≤ MOST_BITS
   pub some_bits : HasNumber (takes_of order.command) order.number
   pub some_factor : order.kind ≡ Mul → 1 ≤ order.by

@@ -10,8 +10,8 @@ use std::alloc::Global;
 use sum_graph::SumGraph;
 
 /// The moves of the best span plan that a search of bounded work finds within limits, by Toffoli
-/// gates, then by lines times gates, then by lines. How many gates it has is looked at by whoever
-/// follows the moves.
+/// gates, then by lines times gates, then by lines, which no clause says. How many gates it has is
+/// looked at by whoever follows the moves.
 ///
 /// # Errors
 ///

@@ -16,5 +16,5 @@ mod toggles;
 
 pub use events::{End, Event, Factors, RowVector, Toggle};
 pub use measures::Measures;
-pub use search::{Candidate, Candidates, MOST_SWEPT, best_sweeps};
+pub use search::{Candidate, Candidates, MOST_SWEPT, best_sweeps, limits_are};
 pub use sweeping::{Sweep, sweep_over};

@@ -1,4 +1,6 @@
 // Which schedule is swept for the best plan.
+ghost use Rattle.span_sweeps.specs.Limits.{LimitsAre};
+
 use crate::bounds::Bounds;
 use crate::measures::Measures;
 use crate::rule::Rule;
@@ -17,6 +19,11 @@ const TURN: u64 = 16;
 
 /// The most symbols that one sweep adds.
 pub const MOST_SWEPT: u64 = 50_000_000;
+
+/// The limits are these numbers. The function does nothing: its contract is the law.
+pub fn limits_are()
+    ensures { LimitsAre }
+{}
 
 /// How many additions the row of a node without products may take before it gets a line of its own.
 const MOST_ADDITIONS: usize = 4;

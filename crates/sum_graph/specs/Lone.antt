@@ -29,15 +29,16 @@ abbrev pub is_in : (ℕ → Bool) → Base → Bool
 is_in lone (bases.Input i) = false
 is_in lone (bases.Node k) = lone k
 
--- node k is made of nodes of a set by no product, and by a sum only where it is of the set itself
+-- node k takes no node of a set by an AND, and one by an XOR or a NOT only where it is in the set
+-- too
 abbrev pub KeepsAlone : (ℕ → Bool) → ℕ → Node → Type 0
 KeepsAlone lone k (Not a) = is_in lone a ≡ true → lone k ≡ true
 KeepsAlone lone k (Xor a b) =
     (is_in lone a ≡ true → lone k ≡ true) × (is_in lone b ≡ true → lone k ≡ true)
 KeepsAlone lone k (And a b) = (is_in lone a ≡ false) × (is_in lone b ≡ false)
 
--- Each node of a set goes to one output alone: it is used once at most, by an output, or by a
--- negation or an exclusive or that is of the set.
+-- A set of nodes, each of which ends in one output by exclusive ors alone: it is used at most once;
+-- no AND takes it; and the XOR or NOT that takes it is in the set too.
 pub record GoToOneOutput (s : SettledView) (lone : ℕ → Bool) : Type 0 where
   pub once : (k : ℕ) → lone k ≡ true → times_in k (uses_in s.nodes s.outputs) ≤ 1
   pub summed : (k : ℕ) (node : Node) → slice_get s.nodes k ≡ Some node → KeepsAlone lone k node

@@ -60,8 +60,9 @@ pub record IsJoined (p q : ProductView) (bits : List Base) (product : Option Pro
 
 -- ---- steps to them
 
--- where q has the factor `c`, the sum of its other factor and of `a` has too many bits
-pub record LacksFactor (a c : List Base) (q : ProductView) : Type 0 where
+-- `a c` and q share no factor `c` with few bits left over: whatever b is with q = b c, a + b has
+-- too many bits
+pub record CannotShare (a c : List Base) (q : ProductView) : Type 0 where
   pub long : (b : List Base) → HasFactors b c q → MOST_FACTOR_BITS < length (apart a b)
 
 -- `a + c` or `b + c` has too many bits
