@@ -4,6 +4,7 @@
 #![tactic(auto)]
 
 mod best;
+mod depths;
 mod orders;
 mod steps;
 mod windows;

@@ -87,13 +87,14 @@ fn early_steps(
     alloc: Global,
     lines: u32,
     walk: Walk<'_>,
-    turns: &[usize],
+    turns: &[u32],
 ) -> Result<Vec<u32>, Memory> {
     let mut windows = Windows::new(alloc, lines)?;
     let mut early = vec![in alloc; 0; walk.flips.len()]?;
     for at in turns {
-        let step = step_at(&mut windows, walk, *at);
-        set(&mut early, *at, step);
+        let at = *at as usize;
+        let step = step_at(&mut windows, walk, at);
+        set(&mut early, at, step);
     }
     Ok(early)
 }
@@ -132,20 +133,20 @@ fn within_levels(
     steps_back(alloc, &turns, &steps)
 }
 
-fn flips_at(alloc: Global, flips: &[Flip], turns: &[usize]) -> Result<Vec<Flip>, Memory> {
+fn flips_at(alloc: Global, flips: &[Flip], turns: &[u32]) -> Result<Vec<Flip>, Memory> {
     let mut turned = Vec::with_capacity(alloc, turns.len())?;
     for at in turns {
-        if let Some(flip) = flips.get(*at) {
+        if let Some(flip) = flips.get(*at as usize) {
             turned.push(*flip)?;
         }
     }
     Ok(turned)
 }
 
-fn steps_back(alloc: Global, turns: &[usize], steps: &[u32]) -> Result<Vec<u32>, Memory> {
+fn steps_back(alloc: Global, turns: &[u32], steps: &[u32]) -> Result<Vec<u32>, Memory> {
     let mut back = vec![in alloc; 0; turns.len()]?;
     for (turn, at) in turns.iter().enumerate() {
-        set(&mut back, *at, number_at(steps, turn));
+        set(&mut back, *at as usize, number_at(steps, turn));
     }
     Ok(back)
 }
@@ -175,16 +176,16 @@ fn raised_level(levels: &mut [u32], flip: Flip, more: u32) -> u32 {
     level
 }
 
-// The places of the flips by their steps, the earliest first, and those of one step in order.
-fn turns_by(alloc: Global, steps: &[u32]) -> Result<Vec<usize>, Memory> {
+/// The places of the flips by their steps, the earliest first, and those of one step in order.
+pub fn turns_by(alloc: Global, steps: &[u32]) -> Result<Vec<u32>, Memory> {
     let mut next = counts_of(alloc, steps)?;
     sum_up(&mut next);
     let mut turns = vec![in alloc; 0; steps.len()]?;
-    for (at, step) in steps.iter().enumerate() {
-        let turn = count_at(&mut next, *step as usize) as usize;
-        if turn < turns.len() {
-            turns[turn] = at;
-        }
+    let mut at = 0u32;
+    for step in steps {
+        let turn = count_at(&mut next, *step as usize);
+        set(&mut turns, turn as usize, at);
+        at = at.saturating_add(1);
     }
     Ok(turns)
 }

@@ -6,9 +6,6 @@ use std::alloc::Global;
 // How many steps of a line are told apart.
 const WIDTH: u32 = 64;
 
-// How often the lines of a flip are asked in turn for a step that is free on all.
-const MOST_ROUNDS: u32 = 256;
-
 // A place that no line has.
 const NO_LINE: usize = usize::MAX;
 
@@ -54,15 +51,10 @@ impl Window {
         }
     }
 
-    // The first step from one on that is not taken.
-    fn free_from(self, step: u32) -> u32 {
-        let step = step.max(self.base);
-        let at = step.saturating_sub(self.base);
-        if at >= WIDTH {
-            return step;
-        }
-        let run = (!(self.taken >> at)).trailing_zeros();
-        step.saturating_add(run.min(WIDTH - at))
+    // Which of the steps from one on are taken.
+    fn taken_from(self, step: u32) -> u64 {
+        let past = step.saturating_sub(self.base);
+        if past < WIDTH { self.taken >> past } else { 0 }
     }
 
     fn with(self, step: u32) -> Window {
@@ -76,6 +68,36 @@ impl Window {
             taken: kept | 1 << at,
             ..self
         }
+    }
+
+    fn passed(self, step: u32) -> Window {
+        Window {
+            last: self.last.max(step),
+            ..self
+        }
+    }
+}
+
+// The windows of the lines of a flip. A line that is missing has the empty one.
+#[derive(Clone, Copy)]
+struct Entered {
+    target: Window,
+    first: Window,
+    second: Window,
+}
+
+impl Entered {
+    // The first step that no group in front of the flip takes on its lines.
+    fn base(self) -> u32 {
+        self.target.base.max(self.first.base.max(self.second.base))
+    }
+
+    // The first step from there on that is free on all lines.
+    fn free_step(self) -> u32 {
+        let base = self.base();
+        let of_controls = self.first.taken_from(base) | self.second.taken_from(base);
+        let taken = self.target.taken_from(base) | of_controls;
+        base.saturating_add((!taken).trailing_zeros())
     }
 }
 
@@ -94,77 +116,45 @@ impl Windows {
 
     /// The first step at which all lines of the flip are free. The flip takes it.
     pub fn take(&mut self, flip: Flip, segment: u32) -> u32 {
-        let first = self.enter_all(flip, segment);
-        let step = self.free_from(flip, first);
-        for line in lines_of(flip) {
-            self.take_on(line, step);
-        }
+        let [target, first, second] = lines_of(flip);
+        let entered = self.entered(flip, segment);
+        let step = entered.free_step();
+        self.set(target, entered.target.with(step));
+        self.set(first, entered.first.with(step));
+        self.set(second, entered.second.with(step));
         step
     }
 
     /// The step behind which the flip stands, where it takes none.
     pub fn pass(&mut self, flip: Flip, segment: u32) -> u32 {
-        let step = self.enter_all(flip, segment).saturating_sub(1);
-        for line in lines_of(flip) {
-            self.pass_on(line, step);
-        }
+        let [target, first, second] = lines_of(flip);
+        let entered = self.entered(flip, segment);
+        let step = entered.base().saturating_sub(1);
+        self.set(target, entered.target.passed(step));
+        self.set(first, entered.first.passed(step));
+        self.set(second, entered.second.passed(step));
         step
     }
 
-    // The first step that no group in front of the flip takes on its lines.
-    fn enter_all(&mut self, flip: Flip, segment: u32) -> u32 {
+    fn entered(&self, flip: Flip, segment: u32) -> Entered {
         let [target, first, second] = lines_of(flip);
-        let as_target = self.enter(target, Role::Target, segment);
-        let as_first = self.enter(first, Role::Control, segment);
-        let as_second = self.enter(second, Role::Control, segment);
-        as_target.max(as_first.max(as_second))
-    }
-
-    fn enter(&mut self, line: usize, role: Role, segment: u32) -> u32 {
-        if line >= self.on.len() {
-            return 0;
+        Entered {
+            target: self.window(target, Role::Target, segment),
+            first: self.window(first, Role::Control, segment),
+            second: self.window(second, Role::Control, segment),
         }
-        let window = self.on[line].entered(role, segment);
-        self.on[line] = window;
-        window.base
     }
 
-    // A step from one on that is free on all lines, or the last one that was asked for.
-    fn free_from(&self, flip: Flip, first: u32) -> u32 {
-        let mut step = first;
-        for _ in 0..MOST_ROUNDS {
-            let free = self.free_once(flip, step);
-            if free == step {
-                break;
-            }
-            step = free;
-        }
-        step
-    }
-
-    fn free_once(&self, flip: Flip, step: u32) -> u32 {
-        let [target, first, second] = lines_of(flip);
-        let step = self.free_on(target, step);
-        self.free_on(second, self.free_on(first, step))
-    }
-
-    fn free_on(&self, line: usize, step: u32) -> u32 {
+    fn window(&self, line: usize, role: Role, segment: u32) -> Window {
         match self.on.get(line) {
-            Some(window) => window.free_from(step),
-            None => step,
+            Some(window) => window.entered(role, segment),
+            None => Window::EMPTY,
         }
     }
 
-    fn take_on(&mut self, line: usize, step: u32) {
+    fn set(&mut self, line: usize, window: Window) {
         if line < self.on.len() {
-            self.on[line] = self.on[line].with(step);
-        }
-    }
-
-    fn pass_on(&mut self, line: usize, step: u32) {
-        if line < self.on.len() {
-            let last = self.on[line].last.max(step);
-            self.on[line].last = last;
+            self.on[line] = window;
         }
     }
 }

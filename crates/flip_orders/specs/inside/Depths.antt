@@ -1,12 +1,19 @@
--- Circuits whose depths are compared.
-use Rattle.std.specs.Prelude.{◌≡◌, ℕ, ◌≤◌, Bool, List}
-use Rattle.std.specs.List.Sorted.{IsPermutation}
-use Rattle.mct_circuit.specs.Gates.{CircuitView, GateView, line_map}
-use Rattle.mct_circuit.specs.Sizes.{depth_of, toffoli_depth_of}
+-- Depths of flips, and orders whose depths are compared.
+use Rattle.std.specs.Prelude.{◌≡◌, ℕ, ◌≤◌, List}
+use Rattle.mct_circuit.specs.Gates.{GateView}
+use Rattle.mct_circuit.specs.Sizes.{depth_of, toffoli_depth_of, toffoli_weight}
 use Rattle.flip_lists.specs.declared.flip.Flip.{Flip}
 use Rattle.flip_lists.specs.Flips.{gates_of}
-use Rattle.flip_orders.specs.declared.best.Depths.{Depths}
-use Rattle.flip_orders.specs.declared.best.Measured.{Measured}
+use Rattle.flip_orders.specs.declared.best.Ordered.{Ordered}
+use Rattle.flip_orders.specs.declared.depths.Counting.{Counting}
+use Rattle.flip_orders.specs.declared.depths.Counting.TheVariants.{EachFlip, Toffolis}
+use Rattle.flip_orders.specs.declared.depths.Depths.{Depths}
+use Rattle.flip_orders.specs.inside.Orders.{IsFreeOrder}
+
+-- what a gate adds to a depth
+abbrev pub weight_for : Counting → GateView → ℕ
+weight_for EachFlip gate = 1
+weight_for Toffolis gate = toffoli_weight gate
 
 pub record AreDepthsOf (gates : List GateView) (depths : Depths) : Type 0 where
   pub all : depths.all ≡ depth_of gates
@@ -17,18 +24,13 @@ pub record AreWithin (depths most : Depths) : Type 0 where
   pub all : depths.all ≤ most.all
   pub toffoli : depths.toffoli ≤ most.toffoli
 
--- the circuit with its depths
-pub record IsMeasured (circuit : CircuitView) (measured : Measured) : Type 0 where
-  pub narrow : measured.narrow ≡ circuit
-  pub depths : AreDepthsOf circuit.gates measured.depths
+-- the flips in another order, with their depths
+pub record IsOrderOf (flips : List Flip) (ordered : Ordered) : Type 0 where
+  pub order : IsFreeOrder flips ordered.flips.items
+  pub depths : AreDepthsOf (gates_of ordered.flips.items) ordered.depths
 
--- the same gates with the same line map
-pub record AreRearranged (old new : List GateView) : Type 0 where
-  pub permutation : IsPermutation old new
-  pub same : (bits : List Bool) → line_map new bits ≡ line_map old bits
-
--- a circuit of flips in another order, with its depths
-pub record IsOrderOf (lines : ℕ) (flips : List Flip) (measured : Measured) : Type 0 where
-  pub lines_are : measured.narrow.lines ≡ lines
-  pub gates : AreRearranged (gates_of flips) measured.narrow.gates
-  pub depths : AreDepthsOf measured.narrow.gates measured.depths
+-- the flips in another order, neither deeper nor of a greater Toffoli depth
+pub record IsNoDeeper (old new : List Flip) : Type 0 where
+  pub order : IsFreeOrder old new
+  pub depth : depth_of (gates_of new) ≤ depth_of (gates_of old)
+  pub toffoli_depth : toffoli_depth_of (gates_of new) ≤ toffoli_depth_of (gates_of old)

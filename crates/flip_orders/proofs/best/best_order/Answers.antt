@@ -1,44 +1,37 @@
 use Rattle.std.proofs.Common.{◌∙◌, ap, subst, sym}
+use Rattle.std.specs.Prelude.{IfSome}
 use Rattle.mct_circuit.specs.Gates.{AreGatesOn, CircuitView}
-use Rattle.flip_lists.specs.Flips.{AreFlipsOn}
+use Rattle.flip_lists.specs.Flips.{AreFlipsOn, gates_of}
 use Rattle.flip_lists.proofs.GateLemmas.{flips_on_from}
-use Rattle.flip_orders.specs.inside.Depths.{IsOrderOf}
-use Rattle.flip_orders.proofs.CircuitLemmas.{IsReordered, as_it_is, better, no_deeper}
+use Rattle.flip_orders.specs.inside.Depths.{IsNoDeeper}
+use Rattle.flip_orders.proofs.CircuitLemmas.{reordered, still_on}
 use Rattle.flip_orders.proofs.best.best_order.Goals as goal
-use Rattle.flip_orders.proofs.best.best_order.Goals.{After-better_of-best}
+use Rattle.flip_orders.proofs.best.best_order.Goals.{After-deref, After-deref-2}
 
-pub reordered-requires : goal.reordered-requires
-reordered-requires c =
-    subst (AreFlipsOn c.lines-lines.result) (sym c.deref.ensures.value)
-    (flips_on_from c.lines-lines.result c.in_ok-flips.flips.items c.circuit-circuit.result.now.gates (c.in_ok-flips.ensures ∙ c.gates.ensures.gates)
-    (subst (λ n. AreGatesOn n c.circuit-circuit.result.now.gates) (sym c.lines-lines.ensures.lines) c.lines-lines.ensures.gates))
+on_lines : (c : After-deref) → AreFlipsOn c.lines-lines.result c.in_ok-flips.flips.items
+on_lines c =
+    flips_on_from c.lines-lines.result c.in_ok-flips.flips.items c.circuit-circuit.result.now.gates (c.in_ok-flips.ensures ∙ c.gates.ensures.gates)
+    (subst (λ n. AreGatesOn n c.circuit-circuit.result.now.gates) (sym c.lines-lines.ensures.lines) c.lines-lines.ensures.gates)
 
-pub reordered-requires-2 : goal.reordered-requires-2
-reordered-requires-2 c =
+fine : (c : After-deref-2) → IsNoDeeper c.in_ok-flips.flips.items c.in-Some.best.items
+fine c =
+    subst (λ l. IsNoDeeper l c.in-Some.best.items) c.deref.ensures.value
+    (subst (λ found. IfSome found (λ new. IsNoDeeper c.deref.result.now new.items)) c.in-Some.is c.in_ok-best.ensures)
+
+pub better_order-requires : goal.better_order-requires
+better_order-requires c =
+    subst (AreFlipsOn c.lines-lines.result) (sym c.deref.ensures.value) (on_lines (goal.at.better_order-requires c).After-deref)
+
+pub circuit_of-requires-clause-lines : goal.circuit_of-requires-clause-lines
+circuit_of-requires-clause-lines c =
+    let at = goal.at.circuit_of-requires-clause-lines c in
     subst (AreFlipsOn c.lines-lines.result) (sym c.deref-2.ensures.value)
-    (flips_on_from c.lines-lines.result c.in_ok-flips.flips.items c.circuit-circuit.result.now.gates (c.in_ok-flips.ensures ∙ c.gates.ensures.gates)
-    (subst (λ n. AreGatesOn n c.circuit-circuit.result.now.gates) (sym c.lines-lines.ensures.lines) c.lines-lines.ensures.gates))
-
-made : (c : After-better_of-best) → IsReordered c.args.narrow c.better_of-best.result.narrow
-made c =
-    let old = c.args.narrow in
-    let flips = c.in_ok-flips.flips.items in
-    let most = c.in_ok-old.old.depths in
-    let seen = c.circuit-circuit.ensures.circuit in
-    let lines = c.lines-lines.ensures.lines ∙ ap (λ (v : CircuitView). v.lines) seen in
-    let gates = c.in_ok-flips.ensures ∙ (c.gates.ensures.gates ∙ ap (λ (v : CircuitView). v.gates) seen) in
-    let measured = c.in_ok-old.ensures in
-    let first : IsOrderOf c.lines-lines.result flips c.in_ok-first.first =
-    subst (λ l. IsOrderOf c.lines-lines.result l c.in_ok-first.first) c.deref.ensures.value c.in_ok-first.ensures in
-    let second : IsOrderOf c.lines-lines.result flips c.in_ok-second.second =
-    subst (λ l. IsOrderOf c.lines-lines.result l c.in_ok-second.second) c.deref-2.ensures.value c.in_ok-second.ensures in
-    better old c.better_of-better.result c.in_ok-second.second c.better_of-best.result most
-    (better old c.in_ok-old.old c.in_ok-first.first c.better_of-better.result most (as_it_is old c.in_ok-old.old measured)
-    (no_deeper c.lines-lines.result flips old most c.in_ok-first.first first lines gates measured.depths) c.better_of-better.ensures)
-    (no_deeper c.lines-lines.result flips old most c.in_ok-second.second second lines gates measured.depths) c.better_of-best.ensures
+    (still_on c.lines-lines.result c.in_ok-flips.flips.items c.in-Some.best.items (fine at.After-deref-2).order (on_lines at.After-deref))
 
 pub returns-clause-gates : goal.returns-clause-gates
-returns-clause-gates c = (made (goal.at.returns-clause-gates c).After-better_of-best).gates
-
-pub returns-clause-lines : goal.returns-clause-lines
-returns-clause-lines c = (made (goal.at.returns-clause-lines c).After-better_of-best).lines
+returns-clause-gates c =
+    let gates = c.in_ok-flips.ensures ∙ (c.gates.ensures.gates ∙ ap (λ (v : CircuitView). v.gates) c.circuit-circuit.ensures.circuit) in
+    let there = reordered c.in_ok-flips.flips.items c.in-Some.best.items c.args.narrow.gates gates
+    (fine (goal.at.returns-clause-gates c).After-deref-2) in
+    let made = ap (λ (v : CircuitView). v.gates) (c.new.ensures ∙ c.in_ok-circuit.ensures.circuit) ∙ ap gates_of c.deref-2.ensures.value in
+    rw made there
