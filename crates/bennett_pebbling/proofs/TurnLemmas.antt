@@ -104,6 +104,8 @@ module _ (f next : ForwardView) (k : ℕ) (t : IsToggled f k next) (forward : Is
 
 pub not_turned_over : (f : ForwardView) (k : ℕ) (e : PlanFault) → IsForward f → k < length f.graph.nodes → IsToggleFault f k e → IsTurnFault f k true e
 not_turned_over f k (Lines need) forward low fault = record {
+  turning = refl;
+  toggle = fault;
   fault = λ allowed allows. record {
     need = (
       fault.1,
@@ -123,10 +125,17 @@ not_turned_over f k (Lines need) forward low fault = record {
   heavy = tt;
 }
 not_turned_over f k Gates forward low fault = record {
+  turning = refl;
+  toggle = fault;
   fault = λ allowed allows. record {
     need = tt;
     short = λ light. omega (arith, fault.1.heavy, few_toggle f.graph k fault.1.node light fault.1.is);
   };
   heavy = omega (arith, fault.1.heavy, price_node toggle_weight f.graph k fault.1.node fault.1.is);
 }
-not_turned_over f k (Memory _) forward low fault = record { fault = λ allowed allows. record { need = tt; short = tt }; heavy = tt }
+not_turned_over f k (Memory _) forward low fault = record {
+  turning = refl;
+  toggle = fault;
+  fault = λ allowed allows. record { need = tt; short = tt };
+  heavy = tt;
+}

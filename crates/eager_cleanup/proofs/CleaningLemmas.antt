@@ -1,6 +1,6 @@
 -- What cleaning one node does to a forward part.
 use Rattle.std.proofs.Common.{◌≡◌, ℕ, ◌+◌, ◌*◌, ◌<◌, ◌≤◌, true, false, List, length, set, Option, Some, None, is_some, Result, Ok, Err, IfOk, refl, sym, ap}
-use Rattle.std.proofs.Common.{◌∙◌, subst, arith}
+use Rattle.std.proofs.Common.{◌∙◌, subst, inl, inr, arith}
 use Rattle.std.specs.List.{AllByRecursion}
 use Rattle.std.proofs.Math.Nat.{mul-le-mul_right}
 use Rattle.std.proofs.lemmas.Bool.{true≢false}
@@ -18,7 +18,7 @@ use Rattle.circuit_plans.specs.declared.plan.PlanFault.TheVariants.{Lines, Gates
 use Rattle.gate_split.specs.Costs.{most_gates}
 use Rattle.held_nodes.specs.Held.{ForwardView, IsForward, held_count, held_line, is_held}
 use Rattle.sum_graph.specs.Graphs.{first_work}
-use Rattle.held_nodes.specs.Moves.{CanClear, IsCleared, IsClearFault, IsToggled, IsToggleFault, TakesLine, cube_flips, toggle_of, with_node}
+use Rattle.held_nodes.specs.Moves.{CanClear, IsReadyNode, IsCleared, IsClearFault, IsToggled, IsToggleFault, TakesLine, cube_flips, toggle_of, with_node}
 use Rattle.held_nodes.proofs.LineLemmas.{count-given, held_within}
 use Rattle.held_nodes.proofs.PlaceLemmas.{held_own}
 use Rattle.list_facts.specs.Bits.{bit_of}
@@ -90,14 +90,14 @@ some_cost n None = omega arith
 some_cost n (Some p) = omega arith
 
 pub toggle_back_fault : (s : SettledView) (value : Option Polynomial) (f : ForwardView) (k : ℕ) (fault : PlanFault) → f.graph ≡ plain_of s → IsForward f
-    → is_held f.lines k ≡ true
+    → is_held f.lines k ≡ true → IsReadyNode f.graph f.lines k
     → IsToggleFault f k fault → IsCleaningFault value f k fault
-toggle_back_fault s value f k (Lines need) graph is held fault = absurd (true≢false (sym held ∙ fault.0.free))
-toggle_back_fault s value f k Gates graph is held fault = record {
+toggle_back_fault s value f k (Lines need) graph is held ready fault = absurd (true≢false (sym held ∙ fault.0.free))
+toggle_back_fault s value f k Gates graph is held ready fault = record {
   held = held;
   heavy = omega (arith, fault.1.heavy, plain_weight s f.graph k fault.1.node graph fault.1.is, some_cost f.graph.inputs value, light_forward f is);
 }
-toggle_back_fault s value f k (Memory _) graph is held fault = tt
+toggle_back_fault s value f k (Memory _) graph is held ready fault = record { held = held; how = inl ready }
 
 -- ---- by its value
 
@@ -156,4 +156,4 @@ clear_fault s f k p cubes Gates graph is held known sum fault = record {
     cubes_cost s f k (first_work f.graph) fault.line p cubes graph known sum,
   );
 }
-clear_fault s f k p cubes (Memory _) graph is held known sum fault = tt
+clear_fault s f k p cubes (Memory _) graph is held known sum fault = record { held = held; how = inr refl }

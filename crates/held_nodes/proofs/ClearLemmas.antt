@@ -23,9 +23,9 @@ use Rattle.held_nodes.proofs.LineLemmas.{held_within}
 use Rattle.held_nodes.proofs.PlaceLemmas.{held_own}
 use Rattle.held_nodes.specs.Moves.{CanClear, IsClearFault, cube_flip, cube_flips}
 use Rattle.mct_circuit.specs.Sizes.{weight_in}
-use Rattle.held_nodes.specs.inside.Kept.{AreTooHeavy}
+use Rattle.held_nodes.specs.inside.Kept.{IsWeightFault}
 use Rattle.held_nodes.proofs.ContentLemmas.{all_lines, length-all_lines, input_bit, work_bit, set_work}
-use Rattle.held_nodes.proofs.CubeLemmas.{control_lines, different_lines}
+use Rattle.held_nodes.proofs.CubeLemmas.{control_lines, different_lines, weight_flips}
 use Rattle.held_nodes.proofs.ForwardLemmas.{AddNode}
 use Rattle.held_nodes.proofs.SetLemmas.{cubes_set}
 use Rattle.held_nodes.proofs.StepLemmas.{Gives, over_half, given_inside, given_place}
@@ -116,7 +116,7 @@ clear_low f k cubes can =
     (λ l less. omega (arith, less)) cube low) cubes can.inputs
 
 pub clear_fault : (f : ForwardView) (w : ℕ) (old : HeapView) (k line : ℕ) (cubes : List (List Literal)) (fault : PlanFault) → Gives f w old k line
-    → AreTooHeavy w (weight_in (f.gates ++ cube_flips (first_work f.graph) line cubes)) fault → IsClearFault f k cubes fault
+    → IsWeightFault w (weight_in (f.gates ++ cube_flips (first_work f.graph) line cubes)) fault → IsClearFault f k cubes fault
 clear_fault f w old k line cubes (Lines need) g is = absurd is
 clear_fault f w old k line cubes Gates g is = record {
   line = line;
@@ -126,7 +126,17 @@ clear_fault f w old k line cubes Gates g is = record {
       subst (λ (n : ℕ). f.budget.gates < 2 * n) (sum_by-append weight_of f.gates flips)
       (over_half f.budget.gates w (weight_in (f.gates ++ flips)) g.kept.weights is));
 }
-clear_fault f w old k line cubes (Memory _) g is = tt
+clear_fault f w old k line cubes (Memory _) g is = λ heavy.
+    let first = first_work f.graph in
+    omega (
+      arith,
+      heavy.heavy,
+      is,
+      g.kept.weights,
+      sum_by-append weight_of f.gates (cube_flips first line cubes),
+      weight_flips first line cubes,
+      weight_flips first heavy.line cubes,
+    )
 
 pub clear_held : (f entry : ForwardView) (k : ℕ) (cubes : List (List Literal)) → f ≡ entry → CanClear entry k cubes → is_held f.lines k ≡ true
 clear_held f entry k cubes e can = ap (λ (g : ForwardView). is_held g.lines k) e ∙ can.held

@@ -136,11 +136,10 @@ pub record IsClearTooHeavy (f : ForwardView) (k : ℕ) (cubes : List (List Liter
   pub heavy : f.budget.gates
       < 2 * (weight_in f.gates + weight_in (cube_flips (first_work f.graph) line cubes))
 
--- memory may be wanted for a flip before the one that is too heavy
 abbrev pub IsClearFault : ForwardView → ℕ → List (List Literal) → PlanFault → Type 0
 IsClearFault f k cubes (Lines need) = ⊥
 IsClearFault f k cubes Gates = IsClearTooHeavy f k cubes
-IsClearFault f k cubes (Memory _) = ⊤
+IsClearFault f k cubes (Memory _) = ¬ IsClearTooHeavy f k cubes
 
 -- ---- the finish
 

@@ -42,10 +42,7 @@ impl WeighedGates {
         }
     }
 
-    pub fn allocator(&self) -> Global
-        ensures light { sum_by weight_of self.now.gates ≤ self.now.most }
-    {
-        let _ = self.weight;
+    pub fn allocator(&self) -> Global {
         *self.gates.allocator()
     }
 
@@ -59,28 +56,14 @@ impl WeighedGates {
 
     // How much more the gates may weigh.
     pub fn room(&self) -> u64
-        ensures { result ≡ self.now.most - sum_by weight_of self.now.gates }
+        ensures room { result ≡ self.now.most - sum_by weight_of self.now.gates }
+        ensures within { sum_by weight_of self.now.gates ≤ self.now.most }
     {
         self.most - self.weight
     }
 
-    // Appends a gate, where it is light enough.
-    pub fn push(&mut self, gate: Gate) -> Result<(), PlanFault>
-        ensures ok { OnOk result (self.new
-            ≡ record self.old { gates = self.old.gates ++ gate ∷ [] }) }
-        ensures refused { IfErr result (IsWeightFault self.old.most
-            (sum_by weight_of (self.old.gates ++ gate ∷ []))) }
-        ensures light { OnOk result (sum_by weight_of self.new.gates ≤ self.new.most) }
-    {
-        if gate.weight() > self.room() {
-            return Err(PlanFault::Gates);
-        }
-        self.put(gate)?;
-        Ok(())
-    }
-
     // Appends a gate, for which there is room.
-    fn put(&mut self, gate: Gate) -> Result<(), Memory>
+    pub fn put(&mut self, gate: Gate) -> Result<(), Memory>
         requires { sum_by weight_of (self.old.gates ++ gate ∷ []) ≤ self.old.most }
         ensures { OnOk result (self.new
             ≡ record self.old { gates = self.old.gates ++ gate ∷ [] }) }

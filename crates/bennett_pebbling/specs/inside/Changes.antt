@@ -7,7 +7,7 @@ use Rattle.sum_toggles.specs.Toggles.{toggle_weight}
 use Rattle.circuit_plans.specs.declared.plan.PlanFault.{PlanFault}
 use Rattle.sum_graph.specs.Graphs.{SumGraphView}
 use Rattle.held_nodes.specs.Held.{ForwardView, IsForward, is_held}
-use Rattle.held_nodes.specs.Moves.{IsReadyNode}
+use Rattle.held_nodes.specs.Moves.{IsReadyNode, IsToggleFault}
 use Rattle.bennett_pebbling.specs.inside.Costs.{Allows, AllowsHeld, HasNeed, IsCovered, IsMove, IsMoveFault, IsShort}
 use Rattle.held_nodes.specs.Prices.{IsPrice, price_at, prices}
 use Rattle.bennett_pebbling.specs.inside.Costs.{IsHeavy, price_if}
@@ -42,9 +42,11 @@ pub record IsTurned (f : ForwardView) (node : ℕ) (turn : Bool) (next : Forward
       → sum_by measure next.gates
       ≤ sum_by measure f.gates + price_if turn (price_at price f.graph node)
 
--- why a node did not turn
+-- why a node did not turn: its toggle was refused
 pub record IsTurnFault (f : ForwardView) (node : ℕ) (turn : Bool) (e : PlanFault)
     : Type 0 where
+  pub turning : turn ≡ true
+  pub toggle : IsToggleFault f node e
   pub fault : (allowed : ℕ → Bool) → AllowsTurn f node turn allowed
       → IsMoveFault f (counted allowed (length f.graph.nodes)) (one_if turn) e
   pub heavy : IsHeavy f (price_if turn (price_at toggle_weight f.graph node)) e

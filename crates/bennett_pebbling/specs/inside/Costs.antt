@@ -29,7 +29,7 @@ abbrev pub price_if : Bool → ℕ → ℕ
 price_if true price = price
 price_if false price = 0
 
--- the gates are too few where toggles of this weight are added
+-- the gates are too few where toggles of this weight are added; of another fault nothing is said
 abbrev pub IsHeavy : ForwardView → ℕ → PlanFault → Type 0
 IsHeavy f weight (Lines need) = ⊤
 IsHeavy f weight Gates = f.budget.gates < 2 * (weight_in f.gates + weight)
@@ -47,14 +47,16 @@ pub record IsMove (f : ForwardView) (reach toggles : ℕ) (next : ForwardView) :
   pub weight : IsLight f.graph → weight_in next.gates ≤ weight_in f.gates + 2 * toggles
   pub narrow : AreNarrow f.gates → AreNarrow next.gates
 
--- one line more than the budget has is wanted, and it has fewer work lines than there are nodes
+-- one line more than the budget has is wanted, and it has fewer work lines than there are nodes; of
+-- another fault nothing is said
 abbrev pub HasNeed : ForwardView → PlanFault → Type 0
 HasNeed f (Lines need) =
     (need ≡ f.budget.lines + 1) × (work_lines f.graph f.budget < length f.graph.nodes)
 HasNeed f Gates = ⊤
 HasNeed f (Memory _) = ⊤
 
--- the work lines are fewer than the reach, or the gates too few for the toggles
+-- the work lines are fewer than the reach, or the gates too few for the toggles; memory is wanted
+-- for the marks of a range, whatever the budget has
 abbrev pub IsShort : ForwardView → ℕ → ℕ → PlanFault → Type 0
 IsShort f reach toggles (Lines need) = work_lines f.graph f.budget < reach
 IsShort f reach toggles Gates =

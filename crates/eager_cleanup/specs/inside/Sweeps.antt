@@ -1,6 +1,6 @@
 -- What is held and paid for while the nodes are gone through in order.
 use Rattle.std.specs.Prelude.{◌≡◌, ◌≢◌, ℕ, zero, suc, ◌+◌, ◌*◌, ◌<◌, ◌≤◌, nat_lt, Bool, true, false, if◌then◌else◌, List, length, Option, Some, None, is_some}
-use Rattle.std.specs.Prelude.{slice_get, ⊤, sum_by}
+use Rattle.std.specs.Prelude.{◌⊎◌, slice_get, sum_by}
 use Rattle.std.specs.List.{AllByRecursion, list_all}
 use Rattle.claim_check.specs.Settled.{SettledView, IsSettled, as_graph}
 use Rattle.sum_graph.specs.Plain.{plain_of}
@@ -14,6 +14,7 @@ use Rattle.circuit_plans.specs.declared.plan.PlanFault.TheVariants.{Lines, Gates
 use Rattle.gate_split.specs.Costs.{most_gates}
 use Rattle.circuit_plans.specs.Plans.{BudgetView}
 use Rattle.held_nodes.specs.Held.{ForwardView, IsForward, held_line, is_held, is_ready}
+use Rattle.held_nodes.specs.Moves.{IsReadyNode}
 use Rattle.list_facts.specs.Lists.{IsAmong}
 use Rattle.eager_cleanup.specs.inside.Known.{Polynomial, HasLargeNode, IsKnownValue, last_use_of, value_at}
 
@@ -120,10 +121,15 @@ pub record IsTooHeavy (value : Option Polynomial) (f : ForwardView) (k : ℕ) : 
   pub held : is_held f.lines k ≡ true
   pub heavy : f.budget.gates < 2 * (gates_in f + cleaning_gates f.graph.inputs value)
 
+-- the node is held, and its operands are so, or its value is known
+pub record IsCleanable (value : Option Polynomial) (f : ForwardView) (k : ℕ) : Type 0 where
+  pub held : is_held f.lines k ≡ true
+  pub how : IsReadyNode f.graph f.lines k ⊎ (is_some value ≡ true)
+
 abbrev pub IsCleaningFault : Option Polynomial → ForwardView → ℕ → PlanFault → Type 0
 IsCleaningFault value f k (Lines need) = ⊥
 IsCleaningFault value f k Gates = IsTooHeavy value f k
-IsCleaningFault value f k (Memory _) = ⊤
+IsCleaningFault value f k (Memory _) = IsCleanable value f k
 
 -- ---- the cleaning of an operand
 
@@ -145,8 +151,15 @@ pub record HasHeavy (s : SettledView) (known : List (Option Polynomial)) (user :
   pub is : IsLastUse s user base node
   pub heavy : IsTooHeavy (value_at known node) f node
 
+-- it can be cleaned
+pub record HasCleanable (s : SettledView) (known : List (Option Polynomial)) (user : ℕ)
+    (base : Base) (f : ForwardView) : Type 0 where
+  pub node : ℕ
+  pub is : IsLastUse s user base node
+  pub cleanable : IsCleanable (value_at known node) f node
+
 abbrev pub IsUseFault : SettledView → List (Option Polynomial) → ℕ → Base → ForwardView
     → PlanFault → Type 0
 IsUseFault s known user base f (Lines need) = ⊥
 IsUseFault s known user base f Gates = HasHeavy s known user base f
-IsUseFault s known user base f (Memory _) = ⊤
+IsUseFault s known user base f (Memory _) = HasCleanable s known user base f

@@ -1,5 +1,5 @@
 -- What the fields of a forward part keep.
-use Rattle.std.specs.Prelude.{◌≡◌, ℕ, ◌/◌, ◌<◌, ◌≤◌, max, List, length, Option, Some, None, ⊤}
+use Rattle.std.specs.Prelude.{◌≡◌, ℕ, ◌+◌, ◌*◌, ◌/◌, ◌<◌, ◌≤◌, max, not, List, length, Option, Some, None}
 use Rattle.held_nodes.specs.inside.Lines as heaps
 use Rattle.held_nodes.specs.inside.Lines.{HeapView, contains, IsLineHeap, with_taken, without_line}
 use Rattle.bit_sums.specs.Products.{IsProduct}
@@ -7,9 +7,11 @@ use Rattle.bit_sums.specs.Sums.{SumView, bases_of}
 use Rattle.circuit_plans.specs.declared.plan.PlanFault.{PlanFault}
 use Rattle.circuit_plans.specs.declared.plan.PlanFault.TheVariants.{Lines, Gates, Memory}
 use Rattle.circuit_plans.specs.declared.plan.TheConstants.{MOST_LINES}
+use Rattle.exclusive_sums.specs.declared.cube.Literal.{Literal}
 use Rattle.held_nodes.specs.Held.{ForwardView, IsForward, work_lines, held_count, is_taken}
 use Rattle.mct_circuit.specs.Gates.{GateView}
-use Rattle.std.specs.List.{AllByRecursion}
+use Rattle.mct_circuit.specs.Sizes.{flip_weight}
+use Rattle.std.specs.List.{AllByRecursion, count_by}
 use Rattle.sum_toggles.specs.Toggles.{AreApart, IsPlacedBase, base_line}
 
 -- gates, and the most that they may weigh together
@@ -23,11 +25,10 @@ IsWeightFault most weight (Lines need) = ⊥
 IsWeightFault most weight Gates = most < weight
 IsWeightFault most weight (Memory _) = weight ≤ most
 
--- gates of this weight are too heavy, or memory is wanting for one of them
-abbrev pub AreTooHeavy : ℕ → ℕ → PlanFault → Type 0
-AreTooHeavy most weight (Lines need) = ⊥
-AreTooHeavy most weight Gates = most < weight
-AreTooHeavy most weight (Memory _) = ⊤
+-- what the flip of a work line by a cube weighs
+abbrev pub cube_weight : List Literal → ℕ
+cube_weight cube =
+    flip_weight (length cube) + 2 * count_by (λ (literal : Literal). not literal.positive) cube
 
 -- the lines that are out are those on which nodes are held
 pub record AreOut (lines : List (Option ℕ)) (heap : HeapView) : Type 0 where

@@ -30,4 +30,6 @@ returns-then-are_ready-clause-refused c =
     let f = c.args.forward in
     let k = c.args.k in
     IfErr-weaker c.toggle.result (IsToggleFault f k) (IsCleaningFault c.args.value.now f k)
-    (λ fault is. toggle_back_fault c.args.graph.now c.args.value.now f k fault c.requires.graph c.requires.keeps c.requires.held is) c.toggle.ensures.refused
+    (λ fault is. toggle_back_fault c.args.graph.now c.args.value.now f k fault c.requires.graph c.requires.keeps c.requires.held
+    (ready_plain c.args.graph.now f.graph f.lines k c.node.result c.requires.graph c.node.ensures (sym c.are_ready.ensures.ready ∙ c.if-are_ready.true))
+    is) c.toggle.ensures.refused
