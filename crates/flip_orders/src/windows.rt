@@ -78,27 +78,9 @@ impl Window {
     }
 }
 
-// The windows of the lines of a flip. A line that is missing has the empty one.
-#[derive(Clone, Copy)]
-struct Entered {
-    target: Window,
-    first: Window,
-    second: Window,
-}
-
-impl Entered {
-    // The first step that no group in front of the flip takes on its lines.
-    fn base(self) -> u32 {
-        self.target.base.max(self.first.base.max(self.second.base))
-    }
-
-    // The first step from there on that is free on all lines.
-    fn free_step(self) -> u32 {
-        let base = self.base();
-        let of_controls = self.first.taken_from(base) | self.second.taken_from(base);
-        let taken = self.target.taken_from(base) | of_controls;
-        base.saturating_add((!taken).trailing_zeros())
-    }
+// The first step from one on of which a mask says that it is not taken.
+fn first_free(step: u32, taken: u64) -> u32 {
+    step.saturating_add((!taken).trailing_zeros())
 }
 
 /// The steps that are taken on each line, as flips come one after another. On a line the flips that
@@ -116,43 +98,85 @@ impl Windows {
 
     /// The first step at which all lines of the flip are free. The flip takes it.
     pub fn take(&mut self, flip: Flip, segment: u32) -> u32 {
-        let [target, first, second] = lines_of(flip);
-        let entered = self.entered(flip, segment);
-        let step = entered.free_step();
-        self.set(target, entered.target.with(step));
-        self.set(first, entered.first.with(step));
-        self.set(second, entered.second.with(step));
+        let target = self.window(flip.target, Role::Target, segment);
+        let step = match flip.controls {
+            Controls::Zero => first_free(target.base, target.taken),
+            Controls::One(one) => self.take_on(one, segment, target),
+            Controls::Two(first, second) => self.take_on_both(first, second, segment, target),
+        };
+        self.set(flip.target, target.with(step));
+        step
+    }
+
+    // The first step at which the target and a control are free. The control takes it.
+    fn take_on(&mut self, line: u32, segment: u32, target: Window) -> u32 {
+        let control = self.window(line, Role::Control, segment);
+        let base = target.base.max(control.base);
+        let step = first_free(base, target.taken_from(base) | control.taken_from(base));
+        self.set(line, control.with(step));
+        step
+    }
+
+    // The same of two controls.
+    fn take_on_both(&mut self, first: u32, second: u32, segment: u32, target: Window) -> u32 {
+        let one = self.window(first, Role::Control, segment);
+        let other = self.window(second, Role::Control, segment);
+        let base = target.base.max(one.base.max(other.base));
+        let of_controls = one.taken_from(base) | other.taken_from(base);
+        let step = first_free(base, target.taken_from(base) | of_controls);
+        self.set(first, one.with(step));
+        self.set(second, other.with(step));
         step
     }
 
     /// The step behind which the flip stands, where it takes none.
     pub fn pass(&mut self, flip: Flip, segment: u32) -> u32 {
-        let [target, first, second] = lines_of(flip);
-        let entered = self.entered(flip, segment);
-        let step = entered.base().saturating_sub(1);
-        self.set(target, entered.target.passed(step));
-        self.set(first, entered.first.passed(step));
-        self.set(second, entered.second.passed(step));
+        let target = self.window(flip.target, Role::Target, segment);
+        let base = target.base.max(self.base_of(flip.controls, segment));
+        let step = base.saturating_sub(1);
+        self.set(flip.target, target.passed(step));
+        self.pass_on(flip.controls, segment, step);
         step
     }
 
-    fn entered(&self, flip: Flip, segment: u32) -> Entered {
-        let [target, first, second] = lines_of(flip);
-        Entered {
-            target: self.window(target, Role::Target, segment),
-            first: self.window(first, Role::Control, segment),
-            second: self.window(second, Role::Control, segment),
+    // The first step that no group in front of one of these controls takes.
+    fn base_of(&self, controls: Controls, segment: u32) -> u32 {
+        match controls {
+            Controls::Zero => 0,
+            Controls::One(one) => self.window(one, Role::Control, segment).base,
+            Controls::Two(first, second) => {
+                let base = self.window(first, Role::Control, segment).base;
+                base.max(self.window(second, Role::Control, segment).base)
+            }
         }
     }
 
-    fn window(&self, line: usize, role: Role, segment: u32) -> Window {
-        match self.on.get(line) {
+    fn pass_on(&mut self, controls: Controls, segment: u32, step: u32) {
+        match controls {
+            Controls::Zero => {}
+            Controls::One(one) => self.pass_control(one, segment, step),
+            Controls::Two(first, second) => {
+                self.pass_control(first, segment, step);
+                self.pass_control(second, segment, step);
+            }
+        }
+    }
+
+    fn pass_control(&mut self, line: u32, segment: u32, step: u32) {
+        let control = self.window(line, Role::Control, segment);
+        self.set(line, control.passed(step));
+    }
+
+    // The window of a line as a flip finds it; the empty one of a line that is missing.
+    fn window(&self, line: u32, role: Role, segment: u32) -> Window {
+        match self.on.get(line as usize) {
             Some(window) => window.entered(role, segment),
             None => Window::EMPTY,
         }
     }
 
-    fn set(&mut self, line: usize, window: Window) {
+    fn set(&mut self, line: u32, window: Window) {
+        let line = line as usize;
         if line < self.on.len() {
             self.on[line] = window;
         }
