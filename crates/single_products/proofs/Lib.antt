@@ -1,0 +1,4 @@
+pub mod PartLemmas
+pub mod RenumberingLemmas
+pub mod RoomLemmas
+pub mod WalkLemmas
