@@ -1,8 +1,9 @@
 // What is done in each layer, and what that comes to.
-use crate::cleaning::NEVER;
+use crate::cleaning::{Clearing, Left, NEVER};
 use crate::graph::{Factors, LayerGraph, Node};
 use crate::times::Times;
 use plan_tools::{Table, Work, number};
+use std::alloc::Global;
 
 /// What is done at a boundary, and then in the layer behind it.
 #[derive(Drop)]
@@ -24,6 +25,7 @@ pub struct Layer {
 #[derive(Drop)]
 pub struct Agenda {
     pub layers: Vec<Layer>,
+    lefts: Vec<Left>,
 }
 
 /// What a plan comes to. The better of two is the one that comes to less, at the first of these
@@ -37,10 +39,8 @@ pub struct Demand {
 
 impl Agenda {
     /// The layers of nodes that are made and cleared at these times.
-    pub fn of(work: &mut Work, graph: &LayerGraph, times: &Times, off: &Table<u32>) -> Agenda {
-        let mut agenda = Agenda {
-            layers: Vec::new(work.alloc),
-        };
+    pub fn of(work: &mut Work, graph: &LayerGraph, times: &Times, clearing: Clearing) -> Agenda {
+        let mut agenda = Agenda::none(work.alloc);
         for _ in 0..times.depth.saturating_add(2) {
             let layer = Layer {
                 arrivals: Vec::new(work.alloc),
@@ -52,9 +52,26 @@ impl Agenda {
             work.push(&mut agenda.layers, layer);
         }
         agenda.put_nodes(work, graph, times);
-        agenda.put_clearings(work, graph, off);
+        agenda.put_clearings(work, graph, &clearing.off);
         agenda.put_outputs(work, times);
+        agenda.lefts = clearing.lefts;
         agenda
+    }
+
+    /// No layers.
+    pub fn none(alloc: Global) -> Agenda {
+        Agenda {
+            layers: Vec::new(alloc),
+            lefts: Vec::new(alloc),
+        }
+    }
+
+    /// What the line of a node holds when it is cleared, where nodes are written out in its bits.
+    pub fn left(&self, place: u32) -> Option<&Left> {
+        match self.lefts.get(place as usize) {
+            Some(left) if !left.names.is_empty() => Some(left),
+            _ => None,
+        }
     }
 
     fn put_nodes(&mut self, work: &mut Work, graph: &LayerGraph, times: &Times) {

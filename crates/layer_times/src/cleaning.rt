@@ -14,6 +14,31 @@ pub struct Plan<'p> {
     pub cleaned: u32,
 }
 
+/// When nodes are cleared.
+#[derive(Drop)]
+pub struct Clearing {
+    /// Of each node the layer, or the boundary where it has no product; `NEVER` where that is at
+    /// the end.
+    pub off: Table<u32>,
+    /// Of each node what its line holds when it is cleared.
+    pub lefts: Vec<Left>,
+}
+
+/// What the line of a kept node without a product holds when it is cleared, where that is short:
+/// the sum of its bits, in which other such nodes are written out.
+#[derive(Drop)]
+pub struct Left {
+    /// The symbols, falling.
+    pub bits: Vec<u32>,
+    /// The nodes that are written out, falling, and it itself; none where the line holds its bits.
+    pub names: Vec<u32>,
+}
+
+// The most symbols in which nodes are written out, and the most nodes that are.
+const MOST_LEFT: usize = 8;
+
+const MOST_NAMES: usize = 32;
+
 // What is kept up to the end.
 #[derive(Drop)]
 struct Cleaning<'p> {
@@ -26,16 +51,10 @@ struct Cleaning<'p> {
     off: Table<u32>,
 }
 
-/// Of each node the layer, or the boundary where it has no product, at which it is cleared; `NEVER`
-/// where that is at the end. A node of a part that is cleaned is kept where a later part uses it,
+/// When each node is cleared. A node of a part that is cleaned is kept where a later part uses it,
 /// all others are cleared as soon as what uses them is done. So is a kept node without a product
 /// whose bits are kept: that takes no Toffoli gate.
-pub fn clearing_times(
-    work: &mut Work,
-    graph: &LayerGraph,
-    times: &Times,
-    plan: Plan<'_>,
-) -> Table<u32> {
+pub fn clearing_of(work: &mut Work, graph: &LayerGraph, times: &Times, plan: Plan<'_>) -> Clearing {
     let mut cleaning = Cleaning {
         graph,
         times,
@@ -47,8 +66,12 @@ pub fn clearing_times(
     cleaning.keep_across();
     cleaning.keep_outputs();
     cleaning.wait_for_outputs();
-    cleaning.settle();
-    cleaning.off
+    let lefts = cleaning.lefts(work);
+    cleaning.settle(&lefts);
+    Clearing {
+        off: cleaning.off,
+        lefts,
+    }
 }
 
 impl Cleaning<'_> {
@@ -127,13 +150,58 @@ impl Cleaning<'_> {
         }
     }
 
+    // What the line of each node holds when it is cleared.
+    fn lefts(&self, work: &mut Work) -> Vec<Left> {
+        let mut lefts = Vec::new(work.alloc);
+        for place in 0..self.graph.count() {
+            let left = self.left(work, place, &lefts);
+            work.push(&mut lefts, left);
+        }
+        lefts
+    }
+
+    // What the line of a node holds when it is cleared, where that of those before it is known.
+    fn left(&self, work: &mut Work, place: u32, lefts: &[Left]) -> Left {
+        let mut left = Left {
+            bits: Vec::new(work.alloc),
+            names: Vec::new(work.alloc),
+        };
+        if let Some(node) = self.graph.node(place)
+            && self.are_kept.get(place)
+            && node.is_linear()
+            && self.are_all_kept(&node.bits)
+        {
+            left.bits = work.copy(&node.bits);
+            left.names = work.copy(&[place]);
+            self.write_out(work, node, lefts, &mut left);
+        }
+        if left.bits.len() > MOST_LEFT || left.names.len() > MOST_NAMES {
+            left.names.clear();
+        }
+        left
+    }
+
+    // Writes the nodes out that are among the bits of a node.
+    fn write_out(&self, work: &mut Work, node: &Node, lefts: &[Left], left: &mut Left) {
+        for symbol in &node.bits {
+            if let Some(place) = self.graph.place(*symbol)
+                && let Some(inner) = lefts.get(place as usize)
+                && !inner.names.is_empty()
+            {
+                let others = work.sum_of(&left.bits, &[*symbol]);
+                left.bits = work.sum_of(&others, &inner.bits);
+                left.names = work.sum_of(&left.names, &inner.names);
+            }
+        }
+    }
+
     // Settles when nodes are cleared, what uses them first.
-    fn settle(&mut self) {
+    fn settle(&mut self, lefts: &[Left]) {
         for place in (0..self.graph.count()).rev() {
             if let Some(node) = self.graph.node(place) {
                 let off = self.settled(place, node);
                 self.off.set(place, off);
-                self.wait_for(place, node, off);
+                self.wait_for(place, node, off, lefts);
             }
         }
     }
@@ -179,23 +247,29 @@ impl Cleaning<'_> {
     }
 
     // The operands of a node wait for it: until it is made, and until it is cleared.
-    fn wait_for(&mut self, place: u32, node: &Node, off: u32) {
-        let last = if off == NEVER {
-            self.times.on.get(place)
-        } else {
-            off
+    fn wait_for(&mut self, place: u32, node: &Node, off: u32, lefts: &[Left]) {
+        let on = self.times.on.get(place);
+        let last = if off == NEVER { on } else { off };
+        let Some(factors) = &node.factors else {
+            self.wait_for_linear(place, node, last, lefts);
+            return;
         };
-        let time = if node.is_linear() {
-            last
-        } else {
-            last.saturating_add(1)
-        };
-        if let Some(factors) = &node.factors {
-            self.wait(&factors.first, time);
-            self.wait(&factors.second, time);
-        }
+        let time = last.saturating_add(1);
+        self.wait(&factors.first, time);
+        self.wait(&factors.second, time);
         if !self.times.is_straight(place) {
             self.wait(&node.bits, time);
+        }
+    }
+
+    // The same for a node without a product, whose bits are written out when it is cleared.
+    fn wait_for_linear(&mut self, place: u32, node: &Node, last: u32, lefts: &[Left]) {
+        match lefts.get(place as usize) {
+            Some(left) if !left.names.is_empty() => {
+                self.wait(&node.bits, self.times.on.get(place));
+                self.wait(&left.bits, last);
+            }
+            _ => self.wait(&node.bits, last),
         }
     }
 }

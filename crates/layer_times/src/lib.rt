@@ -11,6 +11,7 @@ mod search;
 mod times;
 
 pub use agenda::{Agenda, Demand, Layer};
+pub use cleaning::Left;
 pub use graph::{Factors, LayerGraph, Node};
 pub use search::best_agenda;
 pub use times::{End, Times};

@@ -1,6 +1,6 @@
 // The best of the plans that clean so many parts.
 use crate::agenda::{Agenda, Demand};
-use crate::cleaning::{Plan, clearing_times};
+use crate::cleaning::{Plan, clearing_of};
 use crate::graph::LayerGraph;
 use crate::parts::Widths;
 use crate::times::Times;
@@ -123,8 +123,8 @@ impl Search<'_> {
             parts: &parts,
             cleaned: choice.cleaned,
         };
-        let off = clearing_times(work, self.graph, self.times, plan);
-        Agenda::of(work, self.graph, self.times, &off)
+        let clearing = clearing_of(work, self.graph, self.times, plan);
+        Agenda::of(work, self.graph, self.times, clearing)
     }
 
     fn finish(&self, work: &mut Work) -> (Agenda, Demand) {
@@ -136,8 +136,7 @@ impl Search<'_> {
                     toffoli: 0,
                     lines: 0,
                 };
-                let layers = Vec::new(work.alloc);
-                (Agenda { layers }, none)
+                (Agenda::none(work.alloc), none)
             }
         }
     }
