@@ -112,13 +112,13 @@ class Comparison:
             self.differs(case, title, repr(case.text[:300]), answer, "the model: %s" % (model,))
         elif not is_sound(case.words, case.text, answer):
             self.differs(case, title + ", by its meaning", repr(case.text[:300]), answer)
-        elif plan_of(case.words) == "compact" and case.words[0] == "compile":
+        elif plan_of(case.words) in ("compact", "shallow") and case.words[0] == "compile":
             self.try_beside_lean(case, answer, title)
         return name_of(answer)
 
     def try_beside_lean(self, case: Case, answer: Answer, title: str) -> None:
-        """A compact circuit beside the lean one."""
-        words = [word.replace("compact", "lean") for word in case.words]
+        """A compact or shallow circuit beside the lean one."""
+        words = [re.sub("compact|shallow", "lean", word) for word in case.words]
         lean = self.answer(Case(words, case.text))
         if not is_no_worse(order_of(case.words), answer, lean):
             self.differs(case, title + ", beside the lean plan", repr(case.text[:300]), answer, lean)

@@ -1,7 +1,7 @@
 """What is promised of an answer beside the one that the models give, whatever circuit it is: docs/COMMANDS.md."""
 import itertools
 from random import Random
-from typing import Iterator, List
+from typing import Dict, Iterator, List
 
 from models import qasm, real
 from models.adders import bits_of
@@ -11,7 +11,7 @@ from models.commands import READERS as CIRCUITS
 from models.commands import MOST_TIDIED, Answer, answer_of, budget_of, circuit_of, flips_of, parts_of, run_on_zeros
 from models.commands import split_of, start_of
 from models.language import Program, Run, program_of
-from models.plans import LEAN_PLANS, Budget, Numbers
+from models.plans import LEAN_PLANS, THRIFTY_PLANS, Budget, Numbers
 from models.templates import inputs_of, wanted
 from models.templates import words_of as numbers_of
 from models.tidied import is_tidy
@@ -70,23 +70,33 @@ def has_few(order: Order, text: bytes, file: bytes) -> bool:
     """Whether a lean or compact circuit has two Toffoli gates at most for each AND of its program, where the row of lean
     plans fits."""
     run = run_on_zeros(text)
-    if order.values["plan"] not in LEAN_PLANS or not Numbers(run).lean.fits(budget_of(order)):
+    if order.values["plan"] not in THRIFTY_PLANS or not Numbers(run).lean.fits(budget_of(order)):
         return True
     products = sum(write.operator == "&&" for write in run.writes)
     return toffoli_gates(order, file) <= 2 * products
 
 
-def is_no_worse(order: Order, compact: Answer, lean: Answer) -> bool:
-    """Whether there is a compact circuit where there is a lean one, with no more Toffoli gates than that has; and what is
-    said where there is none is what is said of the lean one."""
-    if compact.status != 0:
-        return compact == lean
-    return lean.status != 0 or toffoli_gates(order, compact.out) <= toffoli_gates(order, lean.out)
+def is_no_worse(order: Order, found: Answer, lean: Answer) -> bool:
+    """Whether there is a compact or shallow circuit where there is a lean one, with no more Toffoli gates, or of no
+    greater Toffoli depth, than that; and what is said where there is none is what is said of the lean one."""
+    if found.status != 0:
+        return found == lean
+    count = toffoli_depth if order.values["plan"] == "shallow" else toffoli_gates
+    return lean.status != 0 or count(order, found.out) <= count(order, lean.out)
 
 
 def toffoli_gates(order: Order, file: bytes) -> int:
     """How many Toffoli gates a compiled file has."""
     return sum(len(gate.controls) == 2 for gate in READERS[order.values["format"]](file).gates)
+
+
+def toffoli_depth(order: Order, file: bytes) -> int:
+    """The most Toffoli gates of a compiled file in a chain of gates, each of which shares a line with the next."""
+    depths: Dict[int, int] = {}
+    for gate in READERS[order.values["format"]](file).gates:
+        depth = max(depths.get(line, 0) for line in gate.lines) + (len(gate.controls) == 2)
+        depths.update(dict.fromkeys(gate.lines, depth))
+    return max(depths.values(), default=0)
 
 
 def is_same(circuit: real.Circuit, other: real.Circuit) -> bool:
@@ -151,7 +161,7 @@ def may_refuse(order: Order, run: Run, answer: Answer) -> bool:
     budget, plan, numbers = budget_of(order), order.values["plan"], Numbers(run)
     if any(row.fits(budget) for row in numbers.rows(plan)):
         return False
-    cause = {"eager": numbers.eager, "lean": numbers.lean, "compact": numbers.lean}.get(plan, numbers.fine)
+    cause = numbers.lean if plan in LEAN_PLANS else numbers.eager if plan == "eager" else numbers.fine
     if answer.status == 7:
         return plan in LEAN_PLANS or budget.gates < cause.gates
     return needed(answer) == need(run, budget) and budget.lines < cause.lines + budget.borrow

@@ -27,7 +27,7 @@ CALLS: Dict[str, Call] = {
     "arith": Call(["arith", "mul", "1", "--by", "3"], b""),
 }
 LOOPS = Call(["eval", "1"], b"revs 2 main (a : bool) = a")
-LATER_PLANS = ("lean", "compact")  # which a program may not know
+LATER_PLANS = ("lean", "compact", "shallow")  # which a program may not know
 UNREAD = ("gen", "bench", "arith")  # the commands that read no source
 
 

@@ -80,6 +80,12 @@ class Compact(Lean):
     name = "compact"
 
 
+class Shallow(Lean):
+    """`compile --plan shallow`."""
+
+    name = "shallow"
+
+
 class Check(OnPrograms):
     name = "check"
     kinds = {"claimed": 78, "typed": 12, "loose": 4, "unclaimed": 2, "plain": 1, "deep": 1, "wide": 1, "limit": 1}
@@ -285,4 +291,4 @@ class Words:
         return Case(words, texts.get("".join(words[:1]), FIVE).encode())
 
 
-COMPARED = [Compile, Lean, Compact, Check, Eval, Loops, Stat, Run, Convert, Tidy, Verify, Bench, Arith, Words]
+COMPARED = [Compile, Lean, Compact, Shallow, Check, Eval, Loops, Stat, Run, Convert, Tidy, Verify, Bench, Arith, Words]

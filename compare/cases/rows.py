@@ -178,6 +178,20 @@ LEANED = [
     (LEAN + " --borrow 2 --lines 8", AND_OF_5, "revc: lines 9 over 8"),
 ]
 
+# ---- Shallow plans: their refusals are those of lean ones
+
+SHALLOW = "compile --plan shallow"
+SHALLOWED = [
+    (SHALLOW, BITS + "a && b", "x0 x1 y0: t3 x0 x1 y0"),
+    (SHALLOW, "main (a : bool[2]) = true", "x0 x1 y0: t1 y0"),
+    (SHALLOW + " --lines 2", BITS + "a && b", "revc: lines 3 over 2"),
+    (SHALLOW + " --lines 6", AND_OF_5, "revc: lines 7 over 6"),
+    (SHALLOW + " --gates 6", AND_OF_5, "revc: more than 6 gates"),
+    (SHALLOW + " --gates 1 --lines 5", AND_OF_5, "revc: lines 6 over 5"),
+    (SHALLOW + " --borrow 2 --lines 8", AND_OF_5, "revc: lines 9 over 8"),
+]
+SHALLOW_EXAMPLES = ["adder8", "chi5", "present", "speck", "weight7"]  # whose circuits are verified
+
 # Lines, gates and Toffoli gates of examples, at most
 LEAN_SIZES = {"adder": (5, 9, 1), "majority": (4, 6, 1), "chi5": (10, 15, 5), "present": (14, 40, 13),
               "comparator": (11, 41, 9), "multiplier4": (44, 195, 54), "speck": (95, 312, 30),
@@ -666,8 +680,8 @@ WORDS = [(words, BITS + "a && b", worked) for words, worked in [
 ]]
 
 COMPILE = [("compile", text, worked) for text, worked in COMPILED]
-WORKED = COMPILE + PLANNED + LEANED + CHECKED + EVALUATED + LOOPED + COMPUTED + FILES + OTHERS + TIDIED + VERIFIED
-WORKED += ADDERS + ARITH + WORDS
+WORKED = COMPILE + PLANNED + LEANED + SHALLOWED + CHECKED + EVALUATED + LOOPED + COMPUTED + FILES + OTHERS + TIDIED
+WORKED += VERIFIED + ADDERS + ARITH + WORDS
 
 
 def shown(answer: Answer) -> str:

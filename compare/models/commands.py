@@ -81,7 +81,7 @@ def budget_of(order: Order) -> Budget:
 
 
 class Unmodelled(Exception):
-    """A lean or compact plan is wanted: no model makes it, and what is written is judged by its meaning."""
+    """A plan is wanted that has no recipe: no model makes it, and what is written is judged by its meaning."""
 
 
 def planned(order: Order, text: bytes) -> Tuple[Run, Plan]:

@@ -15,7 +15,8 @@ from models.real import Gate
 
 MOST_MONOMIALS = 64
 MOST_COUNTED = 512  # of a write, for the eager numbers
-LEAN_PLANS = ("compact", "lean")  # those over the lean graph, which have one row
+LEAN_PLANS = ("compact", "lean", "shallow")  # those that have the row of the lean graph, and no other
+THRIFTY_PLANS = ("compact", "lean")  # those whose Toffoli gates are few where that row fits
 
 
 class Budget(NamedTuple):

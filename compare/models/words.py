@@ -40,7 +40,7 @@ def choice(default: str, *words: str) -> Option:
 NODES = {"nodes": number(100_000, 1, 1_000_000)}
 PLANNED = {
     "format": choice("real", "qasm"),
-    "plan": choice("auto", "compact", "eager", "lean", "pebble"),
+    "plan": choice("auto", "compact", "eager", "lean", "pebble", "shallow"),
     "lines": number(4_096, 1, 16_384),
     "gates": number(1_000_000, 1, 4_000_000),
     "borrow": number(0, 0, 64),

@@ -30,7 +30,7 @@ class Default(NamedTuple):
         return value in self.takes
 
 
-PLANS = ("auto", "eager", "pebble", "lean", "compact")  # of this and of later programs
+PLANS = ("auto", "eager", "pebble", "lean", "compact", "shallow")  # of this and of later programs
 WAYS = ("both", "sums", "diagrams")
 LINES, GATES, NODES = 16384, 4000000, 1000000
 

@@ -6,7 +6,7 @@ use Rattle.list_facts.specs.Bits.{zeros}
 use Rattle.mct_circuit.specs.Gates.{GateView, CircuitView, AreGatesOn, AreNarrow, line_map}
 use Rattle.mct_circuit.specs.Sizes.{counts_of, weight_in}
 use Rattle.circuit_plans.specs.declared.choice.Plan.{Plan}
-use Rattle.circuit_plans.specs.declared.choice.Plan.TheVariants.{Auto, Compact, Eager, Lean, Pebble}
+use Rattle.circuit_plans.specs.declared.choice.Plan.TheVariants.{Auto, Compact, Eager, Lean, Pebble, Shallow}
 use Rattle.circuit_plans.specs.declared.roles.Roles.{Roles}
 use Rattle.circuit_plans.specs.declared.roles.Role.{Role}
 use Rattle.circuit_plans.specs.declared.size.Size.{Size}
@@ -96,6 +96,7 @@ start_of Compact = Zero
 start_of Eager = Any
 start_of Lean = Any
 start_of Pebble = Any
+start_of Shallow = Any
 
 -- bits that are added to those that lines hold
 abbrev pub added : List Bool → List Bool → List Bool

@@ -14,4 +14,7 @@ pub enum Plan {
     Lean,
     /// Pebbling, with blocks from the least power of two that has all nodes down by halves to 1.
     Pebble,
+    /// The plan of `Lean`, or one of small Toffoli depth that a planner finds, over a graph whose
+    /// nodes have one product at most: the one of the least Toffoli depth.
+    Shallow,
 }

@@ -1,3 +1,4 @@
 pub mod LeanLemmas
 pub mod SearchLemmas
+pub mod ShallowLemmas
 pub mod SplitLemmas

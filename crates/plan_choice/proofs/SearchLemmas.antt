@@ -15,7 +15,7 @@ use Rattle.circuit_plans.specs.declared.plan.PlanFault.TheVariants.{Lines, Gates
 use Rattle.circuit_plans.specs.Plans.{BudgetView, LaidView}
 use Rattle.eager_cleanup.specs.Eager.{IsEagerFault, ports_of}
 use Rattle.revs_tape.specs.Levels.{IsLevels}
-use Rattle.circuit_plans.specs.declared.choice.Plan.TheVariants.{Auto, Compact, Eager, Lean, Pebble}
+use Rattle.circuit_plans.specs.declared.choice.Plan.TheVariants.{Auto, Compact, Eager, Lean, Pebble, Shallow}
 use Rattle.circuit_plans.specs.declared.choice.Plan.{Plan}
 use Rattle.circuit_plans.specs.Plans.{wanted_lines}
 use Rattle.circuit_plans.specs.declared.roles.Start.TheVariants.{Any}
@@ -247,6 +247,10 @@ few_ports Compact s b short = record {
   no_row = λ m within row. (let few = row.few_lines in omega (arith, few, short, within.inputs, within.outputs));
 }
 few_ports Lean s b short = record {
+  few = λ m within. omega (arith, short, within.inputs, within.outputs);
+  no_row = λ m within row. (let few = row.few_lines in omega (arith, few, short, within.inputs, within.outputs));
+}
+few_ports Shallow s b short = record {
   few = λ m within. omega (arith, short, within.inputs, within.outputs);
   no_row = λ m within row. (let few = row.few_lines in omega (arith, few, short, within.inputs, within.outputs));
 }

@@ -20,7 +20,7 @@ use Rattle.plan_choice.specs.Blocks.{extent_of}
 use Rattle.plan_choice.specs.Lean.{CoveringFits, IsCovering, IsThrifty}
 use Rattle.sum_graph.specs.Graphs.{IsLeanOf, SumGraphView}
 use Rattle.circuit_plans.specs.declared.choice.Plan.{Plan}
-use Rattle.circuit_plans.specs.declared.choice.Plan.TheVariants.{Auto, Compact, Eager, Lean, Pebble}
+use Rattle.circuit_plans.specs.declared.choice.Plan.TheVariants.{Auto, Compact, Eager, Lean, Pebble, Shallow}
 
 -- ---- rows of the budget numbers
 
@@ -62,6 +62,7 @@ SomeRowFits Compact b m = LeanFits b m
 SomeRowFits Eager b m = EagerFits b m
 SomeRowFits Lean b m = LeanFits b m
 SomeRowFits Pebble b m = PebblingFits b m
+SomeRowFits Shallow b m = LeanFits b m
 
 -- neither the plain numbers fit, nor those of a block of this size or more
 pub record NoLargerFits (s : SettledView) (block : ℕ) (b : BudgetView) : Type 0 where
@@ -81,16 +82,17 @@ pub record IsBelowFineLines (b : BudgetView) (m : Measures) : Type 0 where
 pub record IsBelowFineGates (b : BudgetView) (m : Measures) : Type 0 where
   pub below : (levels : ℕ) → IsLevels 1 m.steps levels → b.gates < fine_gates m levels
 
--- the budget has fewer lines than the eager number, than a line for each step under `Lean` and
--- `Compact`, or than the fine number where pebbling of the plain graph is tried too
+-- the budget has fewer lines than the eager number, than a line for each step under `Lean`,
+-- `Compact` and `Shallow`, or than the fine number where pebbling of the plain graph is tried too
 abbrev pub HasFewLines : Plan → BudgetView → Measures → Type 0
 HasFewLines Auto b m = IsBelowFineLines b m
 HasFewLines Compact b m = b.lines < lean_lines m b.borrow
 HasFewLines Eager b m = b.lines < eager_lines m b.borrow
 HasFewLines Lean b m = b.lines < lean_lines m b.borrow
 HasFewLines Pebble b m = IsBelowFineLines b m
+HasFewLines Shallow b m = b.lines < lean_lines m b.borrow
 
--- the same of gates; under those two pebbling by smaller blocks saves lines for gates, and the row
+-- the same of gates; under those three pebbling by smaller blocks saves lines for gates, and the row
 -- tells all that is known
 abbrev pub HasFewGates : Plan → BudgetView → Measures → Type 0
 HasFewGates Auto b m = IsBelowFineGates b m
@@ -98,6 +100,7 @@ HasFewGates Compact b m = ¬ LeanFits b m
 HasFewGates Eager b m = b.gates < eager_gates m
 HasFewGates Lean b m = ¬ LeanFits b m
 HasFewGates Pebble b m = IsBelowFineGates b m
+HasFewGates Shallow b m = ¬ LeanFits b m
 
 -- within all measures within which the settled graph is, the budget has too few lines, and no
 -- allowed row fits
@@ -166,6 +169,10 @@ pub record IsCompact (s : SettledView) (b : BudgetView) (laid : LaidView) : Type
   pub narrow : AreNarrow laid.circuit.gates
   pub few : (m : Measures) → IsWithin s m → LeanFits b m → IsThrifty s laid
 
+-- a plan that is chosen by its Toffoli depth, of narrow gates
+pub record IsShallow (laid : LaidView) : Type 0 where
+  pub narrow : AreNarrow laid.circuit.gates
+
 -- a plan of the lean graph, by what the output lines may hold
 abbrev pub IsOfLean : Start → SettledView → BudgetView → LaidView → Type 0
 IsOfLean Any s b laid = IsLean s b laid
@@ -183,3 +190,4 @@ IsChosen Compact s b laid = IsCompact s b laid
 IsChosen Eager s b laid = IsEager s b laid
 IsChosen Lean s b laid = IsLean s b laid
 IsChosen Pebble s b laid = IsPebbling s b laid
+IsChosen Shallow s b laid = IsShallow laid

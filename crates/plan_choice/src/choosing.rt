@@ -2,14 +2,15 @@
 ghost use Rattle.std.specs.Prelude.{◌≡◌, ◌+◌, ◌≤◌, IfOk, IfErr};
 ghost use Rattle.eager_cleanup.specs.Eager.{ports_of};
 ghost use Rattle.sum_graph.specs.Plain.{plain_of};
-ghost use Rattle.plan_choice.specs.Choices.{IsChoiceFault, IsChosen, IsLaidFor, IsOfLean};
-ghost use Rattle.circuit_plans.specs.declared.choice.Plan.TheVariants.{Auto, Compact, Lean};
+ghost use Rattle.plan_choice.specs.Choices.{IsChoiceFault, IsChosen, IsLaidFor, IsOfLean, IsShallow};
+ghost use Rattle.circuit_plans.specs.declared.choice.Plan.TheVariants.{Auto, Compact, Lean, Shallow};
 ghost use Rattle.circuit_plans.specs.declared.roles.Start.TheVariants.{Any};
 ghost use Rattle.circuit_plans.specs.Plans.{HasPortLines, start_of};
 
 use crate::laying::{Tried, is_refused, lay_eager};
 use crate::lean::lay_lean;
 use crate::search::lay_pebbling;
+use crate::shallow::or_shallower;
 use bit_sums::MOST_FACTOR_BITS;
 use circuit_plans::{Budget, Laid, Plan, PlanFault, Start};
 use claim_check::Settled;
@@ -24,17 +25,18 @@ use sum_graph::SumGraph;
 /// which the output lines start at 0, take the best plan of the lean graph: that of its row, or one
 /// that a planner finds, on at most a line for each input, output, node and borrowed bit. Where the
 /// lean row fits, it has at most two Toffoli gates for each AND of the graph, one for each that
-/// goes to one output alone, and at most twice the gates of the row.
+/// goes to one output alone, and at most twice the gates of the row. `Shallow` takes the plan of
+/// `Lean`, or one that a planner finds where that is better by its Toffoli depth.
 ///
 /// # Errors
 ///
-/// The refusal of the last plan that was tried, under `Lean` and `Compact` that of the row; want of
-/// memory ends the search. Never where both numbers of a row that `how` allows fit. `Lines` and
-/// `Gates` come only where the budget has fewer of them than the fine number of the graph, for
-/// `Eager` than its eager number; for `Lean` and `Compact`, `Lines` only where it does not have a
-/// line for each node, and `Gates` only where the row does not fit, be it in lines or in gates.
-/// `need` is the number of inputs, outputs and borrowed lines where that passes the budget, and one
-/// line more than the budget otherwise.
+/// The refusal of the last plan that was tried, under `Lean`, `Compact` and `Shallow` that of the
+/// row; want of memory ends the search. Never where both numbers of a row that `how` allows fit.
+/// `Lines` and `Gates` come only where the budget has fewer of them than the fine number of the
+/// graph, for `Eager` than its eager number; for `Lean`, `Compact` and `Shallow`, `Lines` only
+/// where it does not have a line for each node, and `Gates` only where the row does not fit, be it
+/// in lines or in gates. `need` is the number of inputs, outputs and borrowed lines where that
+/// passes the budget, and one line more than the budget otherwise.
 pub fn choose(alloc: Global, graph: &Settled, budget: &Budget, how: Plan) -> Result<Laid, PlanFault>
     ensures ok { IfOk result (IsLaidFor (start_of how) graph.now budget.now) }
     ensures chosen { IfOk result (IsChosen how graph.now budget.now) }
@@ -60,6 +62,7 @@ fn chosen(alloc: Global, graph: &Settled, budget: &Budget, how: Plan) -> Tried
         Plan::Eager => lay_eager(alloc, graph, &SumGraph::plain(alloc, graph)?, budget),
         Plan::Lean => lean_plan(alloc, graph, budget, Start::Any),
         Plan::Pebble => lay_pebbling(alloc, graph, &SumGraph::plain(alloc, graph)?, budget),
+        Plan::Shallow => shallow_plan(alloc, graph, budget),
     }
 }
 
@@ -88,4 +91,15 @@ fn lean_plan(alloc: Global, graph: &Settled, budget: &Budget, start: Start) -> T
 {
     let lean = SumGraph::lean(alloc, graph, MOST_FACTOR_BITS)?;
     lay_lean(alloc, &lean, budget, start)
+}
+
+// The best plan of the lean graph for any bits on the output lines, or a shallower one.
+fn shallow_plan(alloc: Global, graph: &Settled, budget: &Budget) -> Tried
+    requires { HasPortLines (ports_of graph.now) budget.now }
+    ensures ok { IfOk result (IsLaidFor Any graph.now budget.now) }
+    ensures chosen { IfOk result IsShallow }
+    ensures refused { IfErr result (IsChoiceFault Shallow graph.now budget.now) }
+{
+    let tried = lean_plan(alloc, graph, budget, Start::Any);
+    or_shallower(alloc, graph, budget, tried)
 }

@@ -38,7 +38,7 @@ pub fn lay_lean(alloc: Global, lean: &SumGraph, budget: &Budget, start: Start) -
 }
 
 // The budget as planners take it.
-fn limits_of(budget: &Budget) -> Limits {
+pub fn limits_of(budget: &Budget) -> Limits {
     Limits {
         lines: budget.lines(),
         gates: budget.gates(),

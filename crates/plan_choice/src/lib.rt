@@ -6,5 +6,6 @@ mod laying;
 mod lean;
 mod scripts;
 mod search;
+mod shallow;
 
 pub use choosing::choose;

@@ -1,7 +1,7 @@
 -- A plan whose gates stand in another order is a circuit for the same texts.
 use Rattle.std.proofs.Common.{ℕ, ◌*◌, ◌≤◌, Bool, List, sym, ap, ◌∙◌, subst}
 use Rattle.circuit_plans.specs.declared.choice.Plan.{Plan}
-use Rattle.circuit_plans.specs.declared.choice.Plan.TheVariants.{Auto, Compact, Eager, Lean, Pebble}
+use Rattle.circuit_plans.specs.declared.choice.Plan.TheVariants.{Auto, Compact, Eager, Lean, Pebble, Shallow}
 use Rattle.circuit_plans.specs.declared.plan.TheConstants.{MOST_GATES, MOST_LINES}
 use Rattle.circuit_plans.specs.declared.roles.Roles.{Roles}
 use Rattle.circuit_plans.specs.declared.roles.Start.{Start}
@@ -26,6 +26,7 @@ reordered Compact old new is = is
 reordered Eager old new is = subst (AreReordered old) (sym is) (AreReordered-refl old)
 reordered Lean old new is = is
 reordered Pebble old new is = subst (AreReordered old) (sym is) (AreReordered-refl old)
+reordered Shallow old new is = subst (AreReordered old) (sym is) (AreReordered-refl old)
 
 further : (how : Plan) (old mid new : List GateView) → AreWrittenFor how old mid → AreWrittenFor how mid new → AreWrittenFor how old new
 further Auto old mid new one other = other ∙ one
@@ -33,6 +34,7 @@ further Compact old mid new one other = AreReordered-trans old mid new one other
 further Eager old mid new one other = other ∙ one
 further Lean old mid new one other = AreReordered-trans old mid new one other
 further Pebble old mid new one other = other ∙ one
+further Shallow old mid new one other = other ∙ one
 
 -- ---- the circuit
 

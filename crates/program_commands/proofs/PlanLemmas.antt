@@ -18,7 +18,7 @@ use Rattle.mct_circuit.specs.Gates.{AreGatesOn, AreNarrow, GateView}
 use Rattle.qasm_format.proofs.MeaningLemmas as qasm
 use Rattle.real_format.proofs.MeaningLemmas as real
 use Rattle.mct_circuit.specs.Sizes.{counts_of}
-use Rattle.circuit_plans.specs.declared.choice.Plan.TheVariants.{Auto, Compact, Eager, Lean, Pebble}
+use Rattle.circuit_plans.specs.declared.choice.Plan.TheVariants.{Auto, Compact, Eager, Lean, Pebble, Shallow}
 use Rattle.flip_orders.proofs.ReorderingLemmas.{AreReordered-refl}
 use Rattle.plan_choice.specs.Choices.{IsChosen, IsCompact, IsLean, LeanFits}
 use Rattle.program_commands.specs.Outcomes.{IsCompileFault, IsWritable, file_of}
@@ -123,6 +123,7 @@ as_laid Compact gates = AreReordered-refl gates
 as_laid Eager gates = refl
 as_laid Lean gates = AreReordered-refl gates
 as_laid Pebble gates = refl
+as_laid Shallow gates = refl
 
 planned : (order : OrderView) (text : List ℕ) (laid : LaidView) (tape : TapeView) (s : SettledView) (l : LeavesSettled text order.nodes tape)
     → IsSettledWithin tape order.nodes s → IsPlanOf order.plan s (budget_of order) laid

@@ -10,7 +10,7 @@ use Rattle.circuit_plans.specs.Plans.{BudgetView, LaidView, lines_in, roles_of, 
 use Rattle.mct_circuit.specs.Gates.{GateView}
 use Rattle.mct_circuit.specs.Sizes.{counts_of}
 use Rattle.circuit_plans.specs.declared.choice.Plan.{Plan}
-use Rattle.circuit_plans.specs.declared.choice.Plan.TheVariants.{Auto, Compact, Eager, Lean, Pebble}
+use Rattle.circuit_plans.specs.declared.choice.Plan.TheVariants.{Auto, Compact, Eager, Lean, Pebble, Shallow}
 use Rattle.flip_orders.specs.Orders.{AreReordered}
 use Rattle.plan_choice.specs.Choices.{HasFewLines, HasFewGates, IsChosen, SomeRowFits}
 use Rattle.revs_tape.specs.Measures.{ands_of, inputs_of, outputs_of, writes_of}
@@ -64,12 +64,13 @@ AreWrittenFor Compact laid gates = AreReordered laid gates
 AreWrittenFor Eager laid gates = gates ≡ laid
 AreWrittenFor Lean laid gates = AreReordered laid gates
 AreWrittenFor Pebble laid gates = gates ≡ laid
+AreWrittenFor Shallow laid gates = gates ≡ laid
 
 -- These lines are those of a plan that the order asks for, and the gates are its gates as they are
 -- written. The plan is one of a settled graph of the tape: an eager one within the graph's eager
 -- numbers; a pebbling within the numbers of the largest block that fits, which comes without
--- `--plan` only where the eager numbers do not fit; or a plan of its lean graph, of few Toffoli
--- gates.
+-- `--plan` only where the eager numbers do not fit; a plan of its lean graph, of few Toffoli gates;
+-- or under `shallow` any plan of it, of narrow gates.
 pub record IsPlannedAs (order : OrderView) (tape : TapeView) (roles : Roles)
     (gates : List GateView) : Type 0 where
   pub graph : SettledView

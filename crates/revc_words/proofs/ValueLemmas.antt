@@ -13,7 +13,7 @@ use Rattle.arith_templates.specs.declared.kind.Kind.TheVariants.{Add, Sub, Less,
 use Rattle.arith_templates.specs.declared.limits.TheConstants.{MOST_FACTOR}
 use Rattle.circuit_plans.specs.declared.plan.TheConstants.{MOST_LINES, MOST_GATES, MOST_BORROWED}
 use Rattle.circuit_plans.specs.declared.choice.Plan.{Plan}
-use Rattle.circuit_plans.specs.declared.choice.Plan.TheVariants.{Auto, Compact, Eager, Lean, Pebble}
+use Rattle.circuit_plans.specs.declared.choice.Plan.TheVariants.{Auto, Compact, Eager, Lean, Pebble, Shallow}
 use Rattle.revc_words.specs.declared.limits.TheConstants.{MOST_DIGITS, MOST_NODES, USUAL_LINES, USUAL_GATES, USUAL_NODES}
 use Rattle.revc_words.specs.declared.order.Format.{Format}
 use Rattle.revc_words.specs.declared.order.Format.TheVariants.{Real, Qasm}
@@ -131,6 +131,7 @@ plan_named Compact = refl
 plan_named Eager = refl
 plan_named Lean = refl
 plan_named Pebble = refl
+plan_named Shallow = refl
 
 pub format_named : (format : Format) → format_of (format_word format) ≡ Some format
 format_named Real = refl
@@ -188,6 +189,7 @@ plan_is_no_option Compact = refl
 plan_is_no_option Eager = refl
 plan_is_no_option Lean = refl
 plan_is_no_option Pebble = refl
+plan_is_no_option Shallow = refl
 
 pub format_is_no_option : (format : Format) → is_option (format_word format) ≡ false
 format_is_no_option Real = refl
@@ -252,7 +254,7 @@ plan_rule = record {
   value = plan_of;
   Writes = λ word plan. word ≡ plan_word plan;
   usual = Auto;
-  says = first_says plan_word (Auto ∷ Compact ∷ Eager ∷ Lean ∷ Pebble ∷ []);
+  says = first_says plan_word (Auto ∷ Compact ∷ Eager ∷ Lean ∷ Pebble ∷ Shallow ∷ []);
   found = λ word plan is. ap plan_of is ∙ plan_named plan;
   no_option = λ word plan is. ap is_option is ∙ plan_is_no_option plan;
 }

@@ -11,7 +11,7 @@ use Rattle.arith_templates.specs.declared.kind.Kind.TheVariants.{Add, Sub, Less,
 use Rattle.arith_templates.specs.declared.limits.TheConstants.{MOST_BITS, MOST_FACTOR}
 use Rattle.circuit_plans.specs.declared.plan.TheConstants.{MOST_LINES, MOST_GATES, MOST_BORROWED}
 use Rattle.circuit_plans.specs.declared.choice.Plan.{Plan}
-use Rattle.circuit_plans.specs.declared.choice.Plan.TheVariants.{Auto, Compact, Eager, Lean, Pebble}
+use Rattle.circuit_plans.specs.declared.choice.Plan.TheVariants.{Auto, Compact, Eager, Lean, Pebble, Shallow}
 use Rattle.circuit_plans.specs.declared.roles.Start.{Start}
 use Rattle.circuit_plans.specs.declared.roles.Start.TheVariants.{Any, Zero}
 use Rattle.revc_words.specs.declared.limits.TheConstants.{MOST_DIGITS, MOST_NODES, USUAL_LINES, USUAL_GATES, USUAL_NODES}
@@ -151,6 +151,7 @@ plan_word Compact = codes "compact"
 plan_word Eager = codes "eager"
 plan_word Lean = codes "lean"
 plan_word Pebble = codes "pebble"
+plan_word Shallow = codes "shallow"
 
 -- the word for what output lines may hold at the start
 abbrev pub start_word : Start → List ℕ

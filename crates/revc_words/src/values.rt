@@ -109,6 +109,7 @@ impl Choice for Plan {
             "eager" => Some(Plan::Eager),
             "lean" => Some(Plan::Lean),
             "pebble" => Some(Plan::Pebble),
+            "shallow" => Some(Plan::Shallow),
             _ => None,
         }
     }

@@ -1,6 +1,6 @@
 -- What a plan that was tried says: of its split, of one block, of all blocks down to one, and of a
 -- lean graph.
-use Rattle.std.specs.Prelude.{◌≡◌, ℕ, ◌+◌, ◌*◌, ◌<◌, ◌≤◌, Bool, true, false, ⊤, Result, Ok, Err, List, length, sum_by}
+use Rattle.std.specs.Prelude.{◌≡◌, ◌⊎◌, ℕ, ◌+◌, ◌*◌, ◌<◌, ◌≤◌, Bool, true, false, ⊤, Result, Ok, Err, List, length, sum_by}
 use Rattle.bennett_pebbling.specs.Blocks.{AreWithinBlock}
 use Rattle.bennett_pebbling.specs.Pebbling.{HasNoLineEach, plain_weight}
 use Rattle.circuit_plans.specs.declared.plan.PlanFault.{PlanFault}
@@ -8,14 +8,14 @@ use Rattle.circuit_plans.specs.declared.plan.PlanFault.TheVariants.{Lines, Gates
 use Rattle.circuit_plans.specs.declared.roles.Start.{Start}
 use Rattle.circuit_plans.specs.declared.roles.Start.TheVariants.{Any, Zero}
 use Rattle.circuit_plans.specs.Plans.{AddsOutputs, BudgetView, HasPortLines, IsNarrowPlan, PlannedView, LaidView, roles_of, roles_of_plan, wanted_lines}
-use Rattle.claim_check.specs.Settled.{SettledView}
+use Rattle.claim_check.specs.Settled.{SettledView, settled_outputs}
 use Rattle.gate_split.specs.Costs.{most_gates}
 use Rattle.gate_split.specs.Split.{IsSplitList}
 use Rattle.mct_circuit.specs.Gates.{GateView}
 use Rattle.sum_graph.specs.Graphs.{SumGraphView, first_work, products_in, sum_outputs}
 use Rattle.plan_choice.specs.declared.lean.Most.{Most}
 use Rattle.plan_choice.specs.Blocks.{IsPebblingFault, extent_of}
-use Rattle.plan_choice.specs.Choices.{NoLargerFits}
+use Rattle.plan_choice.specs.Choices.{IsLaidFor, IsShallow, NoLargerFits}
 use Rattle.sum_toggles.specs.Toggles.{toggle_weight}
 use Rattle.plan_choice.specs.Lean.{CoveringFits, covering_weight, toffoli}
 
@@ -67,6 +67,20 @@ IsSearchFault s block b (Lines need) =
     NoLargerFits s block b × IsPebblingFault s block b (Lines need)
 IsSearchFault s block b Gates = NoLargerFits s block b × IsPebblingFault s block b Gates
 IsSearchFault s block b (Memory _) = IsPebblingFault s block b (Memory _)
+
+-- ---- plans of graphs of sums
+
+-- The graph of sums has the inputs of the settled graph, as many outputs, and on every input their
+-- values: its plans are plans of the settled graph.
+pub record HasOutputsOf (s : SettledView) (l : SumGraphView) : Type 0 where
+  pub inputs : l.inputs ≡ s.inputs
+  pub outputs : length l.outputs ≡ length s.outputs
+  pub values : (input : List Bool) → sum_outputs l input ≡ settled_outputs s input
+
+-- a plan of the settled graph that is chosen by its Toffoli depth
+pub record IsShallowFor (s : SettledView) (b : BudgetView) (laid : LaidView) : Type 0 where
+  pub laid_for : IsLaidFor Any s b laid
+  pub shallow : IsShallow laid
 
 -- ---- plans of a lean graph
 

@@ -12,7 +12,7 @@ use Rattle.arith_templates.specs.declared.kind.Kind.TheVariants.{Add, Sub, Less,
 use Rattle.arith_templates.specs.declared.limits.TheConstants.{MOST_BITS, MOST_FACTOR}
 use Rattle.circuit_plans.specs.declared.plan.TheConstants.{MOST_LINES, MOST_GATES, MOST_BORROWED}
 use Rattle.circuit_plans.specs.declared.choice.Plan.{Plan}
-use Rattle.circuit_plans.specs.declared.choice.Plan.TheVariants.{Auto, Compact, Eager, Lean, Pebble}
+use Rattle.circuit_plans.specs.declared.choice.Plan.TheVariants.{Auto, Compact, Eager, Lean, Pebble, Shallow}
 use Rattle.circuit_plans.specs.declared.roles.Start.{Start}
 use Rattle.circuit_plans.specs.declared.roles.Start.TheVariants.{Any, Zero}
 use Rattle.revc_words.specs.declared.limits.TheConstants.{MOST_DIGITS, MOST_NODES, USUAL_LINES, USUAL_GATES, USUAL_NODES}
@@ -123,7 +123,8 @@ number_of least most word =
     cond (is_number_in least most word) (Some (digits_value 10 word)) None
 
 abbrev pub plan_of : List ℕ → Option Plan
-plan_of word = first_with plan_word (Auto ∷ Compact ∷ Eager ∷ Lean ∷ Pebble ∷ []) word
+plan_of word =
+    first_with plan_word (Auto ∷ Compact ∷ Eager ∷ Lean ∷ Pebble ∷ Shallow ∷ []) word
 
 abbrev pub start_of : List ℕ → Option Start
 start_of word = first_with start_word (Any ∷ Zero ∷ []) word
