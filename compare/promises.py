@@ -8,13 +8,14 @@ from models.adders import bits_of
 from models.circuits import is_clean
 from models.claims import variable_order
 from models.commands import READERS as CIRCUITS
-from models.commands import MOST_TIDIED, Answer, answer_of, budget_of, circuit_of, flips_of, parts_of, run_on_zeros
+from models.commands import Answer, Unmodelled, answer_of, budget_of, circuit_of, flips_of, most_split, parts_of
+from models.commands import run_on_zeros
 from models.commands import split_of, start_of
 from models.language import Program, Run, program_of
 from models.plans import LEAN_PLANS, THRIFTY_PLANS, Budget, Numbers
 from models.templates import inputs_of, wanted
 from models.templates import words_of as numbers_of
-from models.tidied import is_tidy
+from models.tidied import is_reordered, is_tidy, tidied
 from models.words import Order, order_of
 
 READERS = {"real": real.circuit_of, "qasm": qasm.compiled_circuit_of}
@@ -25,12 +26,14 @@ SOME_NUMBERS = 5  # random ones on which a circuit of many bits is run
 
 def is_sound(words: List[str], text: bytes, answer: Answer) -> bool:
     """A compiled file is clean and within its budgets, a refused budget is too small, a printed input breaks the claim,
-    a converted circuit has the line map of its source, a tidied one too and is tidy, and a verdict is right on words
-    that are run."""
+    a converted circuit has the line map of its source, a tidied one too and is tidy, or is another order of the gates of
+    one that is, and a verdict is right on words that are run."""
     order = order_of(words)
     if order is not None and order.command in ("convert", "tidy") and answer.status == 0:
         circuit, other = circuit_of(order, text), CIRCUITS[order.values["to"]](answer.out)
-        return is_same(circuit, other) and (order.command == "convert" or is_tidied(circuit, other))
+        return is_same(circuit, other) and (order.command == "convert" or is_tidied(order, circuit, other))
+    if order is not None and order.command == "tidy":
+        return is_refused(words, text)
     if order is not None and order.command == "verify" and answer.status in (0, 15):
         return is_verdict(order, text, answer)
     if order is not None and order.command == "arith" and order.values["write"] != "program":
@@ -109,9 +112,21 @@ def is_same(circuit: real.Circuit, other: real.Circuit) -> bool:
         other.run(list(word)) == circuit.run(list(word[:lines])) + list(word[lines:]) for word in words_of(lines + more))
 
 
-def is_tidied(circuit: real.Circuit, other: real.Circuit) -> bool:
-    """Whether another circuit is tidy, and has at most as many gates as the split list of a circuit."""
-    return is_tidy(flips_of(other.gates)) and len(other.gates) <= len(split_of(circuit, MOST_TIDIED)[0])
+def is_tidied(order: Order, circuit: real.Circuit, other: real.Circuit) -> bool:
+    """Whether another circuit is tidy, and has at most as many gates as the split list of a circuit; or has the gates of
+    the list, or of what is tidied from it, in another order that is no deeper."""
+    old, new, aim = flips_of(split_of(circuit, most_split(order))[0]), flips_of(other.gates), order.values["for"]
+    if aim == "gates":
+        return is_tidy(new) and len(new) <= len(old)
+    return is_reordered(tidied(old) if aim == "depth" else old, new)
+
+
+def is_refused(words: List[str], text: bytes) -> bool:
+    """Whether the models refuse a text."""
+    try:
+        return answer_of(words, text).status != 0
+    except Unmodelled:
+        return False
 
 
 def is_verdict(order: Order, source: bytes, answer: Answer) -> bool:

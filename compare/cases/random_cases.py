@@ -167,6 +167,10 @@ class Tidy(Convert):
         super().__init__(seed)
         self.circuits = ForeignCircuits(seed)
 
+    def rest(self, free: int) -> List[str]:
+        aim = [[], ["--for", "gates"], ["--for", "depth"], ["--for=depth"], ["--for", "order"], ["--for=order"]]
+        return super().rest(free) + self.programs.random.choice(aim)
+
     def case(self) -> Case:
         if self.programs.chance(0.4):
             return super().case()

@@ -478,6 +478,7 @@ def on_lines(names: str, *gates: str) -> str:
 
 
 BACK_AND_FORTH = ["t2 a b", "t2 b a"]
+FAN = on_lines("a b c d e f", "t2 a b", "t2 a c", "t2 a d", "t2 d e", "t2 e f")
 TIDIED = [
     # Alike flips, over one that is free of them
     ("tidy --to real", on_lines("a b c d", "t3 a b c", "t2 a d", "t3 b a c"), "l0 l1 l2 l3: t2 l0 l3"),
@@ -492,6 +493,25 @@ TIDIED = [
     ("tidy", WIDEST, "revc: lines 16385 over 16384"),
     ("tidy --from qasm", FULL, "revc: circuit at 1:1"),
     ("tidy", ".end\n", "revc: circuit line 1"),
+    # One line controls three flips: the one that others wait for goes first, and the depth falls from 5 to 3
+    ("tidy --for depth --to real", FAN, "l0 l1 l2 l3 l4 l5: t2 l0 l3, t2 l0 l1, t2 l3 l4, t2 l0 l2, t2 l4 l5"),
+    ("tidy --for=order --to=real", FAN, "l0 l1 l2 l3 l4 l5: t2 l0 l3, t2 l0 l1, t2 l3 l4, t2 l0 l2, t2 l4 l5"),
+    ("tidy --for gates --to real", FAN, "l0 l1 l2 l3 l4 l5: t2 l0 l1, t2 l0 l2, t2 l0 l3, t2 l3 l4, t2 l4 l5"),
+    # The same of Toffoli gates: from 3 to 2
+    ("tidy --for depth --to real", on_lines("a b c d e f g", "t3 a b c", "t3 a d e", "t3 e f g"),
+     "l0 l1 l2 l3 l4 l5 l6: t3 l0 l3 l4, t3 l0 l1 l2, t3 l4 l5 l6"),
+    # Alike flips cancel, but for the order alone, in which none is better: line a is of three gates
+    ("tidy --to real --for depth", on_lines("a b c d", "t3 a b c", "t2 a d", "t3 b a c"), "l0 l1 l2 l3: t2 l0 l3"),
+    ("tidy --to real --for order", on_lines("a b c d", "t3 a b c", "t2 a d", "t3 b a c"),
+     "l0 l1 l2 l3: t3 l0 l1 l2, t2 l0 l3, t3 l1 l0 l2"),
+    # Gates that are split, on a line that is added, which all touch it: none can be early
+    ("tidy --for order", FULL, QASM_HEAD + "qreg q[4];, qreg dirty[1];, ccx q[2],dirty[0],q[3];, ccx q[0],q[1],dirty[0];, "
+     "ccx q[2],dirty[0],q[3];, ccx q[0],q[1],dirty[0];"),
+    ("tidy --for depth --to real", on_lines("a", *["t1 a"] * 65_536), "l0: "),
+    ("tidy --for depth --to real", on_lines("a", *["t1 a"] * 65_537), "revc: more than 65536 gates"),
+    ("tidy --for order --to real", on_lines("a", *["t1 a"] * 65_537), "lines 1, gates 65537, x 65537, cx 0, ccx 0"),
+    ("tidy --for order", WIDEST, "revc: lines 16385 over 16384"),
+    ("tidy --for depth", ".end\n", "revc: circuit line 1"),
 ]
 
 # ---- Circuits against programs
@@ -675,6 +695,13 @@ WORDS = [(words, BITS + "a && b", worked) for words, worked in [
     ("compile --outputs any", BAD),
     ("tidy x", BAD),
     ("tidy --nodes 5", BAD),
+    ("tidy --for", BAD),
+    ("tidy --for x", BAD),
+    ("tidy --for Depth", BAD),
+    ("tidy --for=", BAD),
+    ("tidy --for depth --for order", BAD),
+    ("convert --for depth", BAD),
+    ("compile --for depth", BAD),
     ("run 1 --from=real -- -1", "revc: circuit line 1"),
     ("run ", "revc: circuit line 1"),
 ]]

@@ -81,7 +81,8 @@ def budget_of(order: Order) -> Budget:
 
 
 class Unmodelled(Exception):
-    """A plan is wanted that has no recipe: no model makes it, and what is written is judged by its meaning."""
+    """A plan is wanted that has no recipe, or an order of gates: no model makes it, and what is written is judged by its
+    meaning."""
 
 
 def planned(order: Order, text: bytes) -> Tuple[Run, Plan]:
@@ -158,9 +159,16 @@ def flips_of(gates: List[real.Gate]) -> List[Flip]:
     return [(tuple(line for line, _ in gate.controls), gate.targets[0]) for gate in gates]
 
 
+def most_split(order: Order) -> int:
+    """How many gates the split list may have of a circuit that is tidied."""
+    return real.MOST_GATES if order.values["for"] == "order" else MOST_TIDIED
+
+
 def tidy_text(order: Order, text: bytes) -> bytes:
     circuit = circuit_of(order, text)
-    gates, added = split_of(circuit, MOST_TIDIED)
+    gates, added = split_of(circuit, most_split(order))
+    if order.values["for"] != "gates":
+        raise Unmodelled()
     flips = tidied(flips_of(gates))
     return CONVERTERS[order.values["to"]](circuit, [flip(target, *controls) for controls, target in flips], added)
 

@@ -4,8 +4,9 @@ A flip is a pair of its controls, in their order, and its target. The recipe has
 cancels, the one with the least first place, and then the least second place, goes out. Then the first block that is
 longer than its elimination is replaced by it, and all begins again.
 """
+from collections import Counter
 from itertools import product
-from typing import List, Optional, Tuple
+from typing import Dict, List, Optional, Tuple
 
 Flip = Tuple[Tuple[int, ...], int]
 MOST_BLOCK_LINES = 64
@@ -89,6 +90,21 @@ def tidied(flips: List[Flip]) -> List[Flip]:
 def is_tidy(flips: List[Flip]) -> bool:
     blocks = (flips[start:end] for start, end in blocks_of(flips))
     return first_pair(flips) is None and all(len(block) <= len(elimination(block)) for block in blocks)
+
+
+def depths(flips: List[Flip]) -> Tuple[int, int]:
+    """The depth, and the Toffoli depth: on the way of each flip along shared lines the most flips, and the most CCX."""
+    on: Dict[int, Tuple[int, int]] = {}
+    for controls, target in flips:
+        before = [on.get(line, (0, 0)) for line in controls + (target,)]
+        depth = max(each for each, _ in before) + 1, max(each for _, each in before) + (len(controls) == 2)
+        on.update({line: depth for line in controls + (target,)})
+    return max((each for each, _ in on.values()), default=0), max((each for _, each in on.values()), default=0)
+
+
+def is_reordered(old: List[Flip], new: List[Flip]) -> bool:
+    """Whether flips are the same, each as often, and neither deeper nor of a greater Toffoli depth."""
+    return Counter(old) == Counter(new) and all(here <= most for here, most in zip(depths(new), depths(old)))
 
 
 def line_map(flips: List[Flip], bits: Tuple[bool, ...]) -> Tuple[bool, ...]:

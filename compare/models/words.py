@@ -47,6 +47,7 @@ PLANNED = {
 }
 FROM = {"from": choice("real", "qasm")}
 TO = {"to": choice("qasm", "real")}
+AIMED = {"for": choice("gates", "depth", "order")}
 NUMBERED = {"gen", "bench"}
 BITS = number(0, 1, 200)
 KINDS = {"add", "sub", "less", "inc", "mul"}
@@ -63,7 +64,7 @@ COMMANDS = {
     "convert": ({**FROM, **TO}, 0, 0),
     "gen": ({}, 1, 1),
     "verify": ({**FROM, **NODES, **VERIFIED, "borrow": PLANNED["borrow"]}, 0, 0),
-    "tidy": ({**FROM, **TO}, 0, 0),
+    "tidy": ({**FROM, **TO, **AIMED}, 0, 0),
     "arith": (ARITH, 2, 2),
     "bench": ({**NODES, **{name: PLANNED[name] for name in PLANNED if name != "format"}}, 1, 1),
 }

@@ -85,7 +85,12 @@ def do_equal(options: argparse.Namespace) -> None:
 
 def do_convert(options: argparse.Namespace) -> None:
     form = format_of(options.output, options.format, "qasm")
-    write(converted(options.command, circuit_text(options.circuit), form, options.circuit), options.output)
+    write(converted(circuit_text(options.circuit), form, options.circuit), options.output)
+
+
+def do_tidy(options: argparse.Namespace) -> None:
+    form = format_of(options.output, options.format, "qasm")
+    write(converted(circuit_text(options.circuit), form, options.circuit, vars(options)["for"]), options.output)
 
 
 def do_draw(options: argparse.Namespace) -> None:
@@ -197,6 +202,11 @@ def takes_numbers(one: Parser) -> None:
     one.map("names for lines of a circuit: \"q[0:4]=a, q[4]=out\"")
 
 
+def takes_tidy(one: Parser) -> None:
+    one.option("for")
+    one.form()
+
+
 def takes_draw(one: Parser) -> None:
     one.options("plan", "lines")
     one.add_argument("--columns", type=int, default=COLUMNS,
@@ -230,7 +240,7 @@ COMMANDS: List[Tuple[str, Command, str, Tuple[str, ...], Taking]] = [
     ("equal", do_equal, "prove that two circuits end with the same bits, whatever their lines start with",
      ("circuit", "other"), takes_equal),
     ("convert", do_convert, "write a circuit by X, CX and CCX gates alone", ("circuit",), Parser.form),
-    ("tidy", do_convert, "the same with gates taken out that cancel, and short runs of CX gates", ("circuit",), Parser.form),
+    ("tidy", do_tidy, "the same with gates taken out that cancel, and short runs of CX gates", ("circuit",), takes_tidy),
     ("draw", do_draw, "draw a program's circuit, or a circuit's file, as SVG", ("file",), takes_draw),
     ("phase", do_phase, "write OpenQASM that turns the phase by the output, the sign where it is 1", ("program",),
      takes_phase),

@@ -32,6 +32,7 @@ class Default(NamedTuple):
 
 PLANS = ("auto", "eager", "pebble", "lean", "compact", "shallow")  # of this and of later programs
 WAYS = ("both", "sums", "diagrams")
+AIMS = ("gates", "depth", "order")
 LINES, GATES, NODES = 16384, 4000000, 1000000
 
 DEFAULTS: Dict[str, Default] = {
@@ -41,5 +42,6 @@ DEFAULTS: Dict[str, Default] = {
     "borrow": Default(0, 0, (0, 64), "lines that are borrowed: they may hold anything, and come back unchanged"),
     "nodes": Default(NODES, 100000, (1, NODES), "the most functions on which claims, or a circuit that is verified, rest"),
     "by": Default("both", "diagrams", WAYS, "how `verify` decides: by sums of products, by diagrams, or by both in turn"),
+    "for": Default("gates", "gates", AIMS, "for what `tidy` works: few gates, and then depth, or depth by order alone"),
 }
 PLAN, WAY = "lean", "both"

@@ -82,19 +82,20 @@ def on_circuit(words: List[str], text: str, path: str = "circuit") -> str:
     return program.call(words + ["--from", "real"], read_text(text, path).real.encode(), explain).decode()
 
 
-def converted(command: str, text: str, form: str, path: str) -> str:
-    """A circuit's file by X, CX and CCX gates, which `convert` or `tidy` makes; names of lines are kept where this package
-    reads or writes it."""
+def converted(text: str, form: str, path: str, aim: str = "") -> str:
+    """A circuit's file by X, CX and CCX gates, which `convert` makes, or `tidy` for an aim; names of lines are kept where
+    this package reads or writes it."""
     if form != "qasm3":
         try:
-            words = [command, "--to", form, "--from", form_of(text)]
+            command = ["tidy", "--for", aim] if aim else ["convert"]
+            words = [*command, "--to", form, "--from", form_of(text)]
             return program.call(words, text.encode(),
                                 lambda message, status: refusals.explain(message, status, None, text, words)).decode()
         except CircuitRefused:
             if form_of(text) == "real":
                 raise
     netlist = read_text(text, path)
-    written: str = getattr(netlist.tidy() if command == "tidy" else netlist.split(), form)
+    written: str = getattr(netlist.tidy(aim) if aim else netlist.split(), form)
     return written
 
 

@@ -6,6 +6,7 @@ from typing import Dict, List, Mapping, Optional, Protocol, Tuple, Union, overlo
 
 from . import program
 from .counting import Cost, cost_of
+from .defaults import AIMS
 from .drawing import COLUMNS, SHOWN_GATES, SHOWN_LINES, Drawing, Picture
 from .errors import RevcError, WidthError
 from .circuit_texts import FILES, ending_of, qasm_text, real_text
@@ -112,13 +113,16 @@ class Netlist:
         """
         return self if all(map(is_plain, self.gates)) else self.by("convert")
 
-    def tidy(self) -> "Netlist":
-        """The same by X, CX and CCX gates of which none cancel, which `revc tidy` makes of it."""
-        return self.by("tidy")
+    def tidy(self, aim: str = "gates") -> "Netlist":
+        """The same by X, CX and CCX gates of which none cancel, which `revc tidy` makes of it; for `depth` these in an order
+        of a smaller depth, for `order` all gates of `split()` in such an order."""
+        if aim not in AIMS:
+            raise RevcError(f"tidy({aim!r}): {', '.join(AIMS)}")
+        return self.by("tidy", "--for", aim)
 
-    def by(self, command: str) -> "Netlist":
+    def by(self, *words: str) -> "Netlist":
         """What a command of the program makes of it, `convert` or `tidy`."""
-        text = program.call([command, "--from", "real", "--to", "real"], self.real.encode()).decode()
+        text = program.call([*words, "--from", "real", "--to", "real"], self.real.encode()).decode()
         names, _, gates = read_real(text)
         added = len(names) - self.lines
         return replace(self, names=self.names + (SPARE,) * added, gates=tuple(gates), marks=self.marks + "-" * added,

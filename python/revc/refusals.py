@@ -2,7 +2,7 @@
 import re
 from typing import TYPE_CHECKING, List, Optional, Sequence
 
-from .defaults import NODES
+from .defaults import GATES, NODES
 from .errors import (CircuitDiffers, CircuitRefused, ClaimFails, GatesExceeded, LinesExceeded, NodesExceeded, OutOfMemory,
                      Refused, TextRefused, Unsettled, refused)
 from .hints import hint
@@ -94,9 +94,9 @@ def circuit_nodes(refusal: NodesExceeded, words: Sequence[str]) -> str:
 
 
 def too_many_gates(refusal: GatesExceeded, words: Sequence[str]) -> str:
-    if words and words[0] == "tidy":
-        return f"`tidy` takes circuits of up to {refusal.limit:,} gates: `convert` has no such limit"
-    if words and words[0] == "convert":
+    if words and words[0] == "tidy" and refusal.limit < GATES:
+        return f"`tidy` takes circuits of up to {refusal.limit:,} gates: `tidy --for order` and `convert` take more"
+    if words and words[0] in ("convert", "tidy"):
         return f"a file has at most {refusal.limit:,} gates: make several of the circuit"
     return ""
 

@@ -32,7 +32,7 @@ COMMANDS: Dict[str, Command] = {
     "run": Command(("BITS..",), ("from",), "a circuit"),
     "stat": Command((), ("from",), "a circuit"),
     "convert": Command((), ("from", "to"), "a circuit"),
-    "tidy": Command((), ("from", "to"), "a circuit"),
+    "tidy": Command((), ("from", "to", "for"), "a circuit"),
     "verify": Command((), ("from", "nodes", "borrow", "outputs", "by"), "a program, a line `---` and a circuit"),
     "gen": Command(("N",), (), ""),
     "bench": Command(("N",), BUDGETS, ""),

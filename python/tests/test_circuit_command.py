@@ -27,7 +27,7 @@ GIVES: List[Tuple[List[str], str]] = [
     (["run", "cuccaro.qasm", "x=7", "y=12", "--map", "a=x, b=y"], "x=7\ny=3\n"),
     (["stat", "cuccaro.qasm"], "lines 10\ngates 25\nx 0\ncx 17\nccx 8\n"),
     (["convert", "cuccaro.qasm", "-o", "c.real"], ""),
-    (["tidy", "cuccaro.qasm", "-o", "c.qasm3"], ""),
+    (["tidy", "cuccaro.qasm", "--for", "depth", "-o", "c.qasm3"], ""),
     (["convert", "cuccaro.qasm", "--format", "qasm3", "-o", "c.qasm"], ""),
     (["equal", "cuccaro.qasm", "c.real"], "equal\n"),
     (["equal", "c.qasm", "c.qasm3"], "equal\n"),

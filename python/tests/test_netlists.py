@@ -105,6 +105,16 @@ class Values(unittest.TestCase):
                 read_text(ADDER).on(mapped)
             self.assertIn(says, str(refused.exception))
 
+    def test_orders(self) -> None:
+        """The gate for which another waits comes first, and all bits end as before."""
+        one = read_text(TWO + "cx q[0],q[1]; cx q[0],r[0]; cx r[0],r[1];")
+        for aim, depth in (("gates", 3), ("depth", 2), ("order", 2)):
+            other = one.tidy(aim)
+            self.assertEqual((other.cost.gates, other.cost.depth), (3, depth))
+            self.assertEqual(equal(one, other), "equal")
+        with self.assertRaises(RevcError):
+            one.tidy("toffoli")
+
     def test_run(self) -> None:
         one = read_text(ADDER)
         self.assertEqual(one.run(a=9, b=13, cin=1), {"cin": 1, "a": 9, "b": 7, "cout": 1})

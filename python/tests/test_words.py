@@ -24,6 +24,7 @@ REFUSED = [
     ("compile --from real", "`compile` takes no `--from`: that is of run, stat, convert, tidy, verify; its options are --format,"),
     ("compile -o x.real", "`compile` takes no `-o`: it writes to standard output, so say > FILE"),
     ("compile --plan compct", "`--plan compct`: is it `compact`? There are auto, eager, pebble, lean, compact, shallow"),
+    ("tidy --for dept", "`--for dept`: is it `depth`? There are gates, depth, order"),
     ("compile --lines 20000", "`--lines 20000`: a number from 1 to 16,384"),
     ("compile --gates=abc", "`--gates abc`: a number from 1 to 4,000,000"),
     ("compile --lines", "`--lines` wants a value: 1 to 16,384"),

@@ -21,6 +21,12 @@ NONE = (
 # Two flips of a negative control, which share its line: two of the split's X gates cancel.
 NEGATIVE = ".numvars 3\n.variables a b c\n.begin\nt2 -a b\nt2 -a c\n.end\n"
 SHARED = "OPENQASM 2.0;\ninclude \"qelib1.inc\";\nqreg q[3];\nx q[0];\ncx q[0],q[1];\ncx q[0],q[2];\nx q[0];\n"
+# One line controls three flips, of which others wait for the last.
+FAN = ".numvars 6\n.variables a b c d e f\n.begin\nt2 a b\nt2 a c\nt2 a d\nt2 d e\nt2 e f\n.end\n"
+EARLY = (
+    "OPENQASM 2.0;\ninclude \"qelib1.inc\";\nqreg q[6];\ncx q[0],q[3];\ncx q[0],q[1];\ncx q[3],q[4];\ncx q[0],q[2];\n"
+    "cx q[4],q[5];\n"
+)
 # A flip under three controls with no idle line, and two CX gates that cancel.
 FULL = ".numvars 4\n.variables a b c d\n.begin\nt2 a b\nt2 a b\nt4 a b c d\n.end\n"
 ADDED = (
@@ -35,4 +41,9 @@ CASES: List[Row] = [
     ("tidy --to real | tidy --from real", NEGATIVE, 0, SHARED),
     ("tidy", FULL, 0, ADDED),
     ("tidy --from qasm", ALONE, 8, "revc: circuit at 1:1\n"),
+    ("tidy --for depth", FAN, 0, EARLY),
+    ("tidy --for order", FAN, 0, EARLY),
+    ("tidy --for=gates | tidy --from qasm --for=order", FAN, 0, EARLY),
+    ("tidy --for depth", FULL, 0, ADDED),
+    ("tidy --for toffoli", FAN, 2, "revc: bad command line\n"),
 ]

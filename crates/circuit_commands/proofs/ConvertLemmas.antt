@@ -107,19 +107,20 @@ can_stop : (most : ℕ) (order : OrderView) (text : List ℕ) (fault : Fault) �
 can_stop most order text fault can cause = split_stops most order text can.circuit can.added can.gates fault can.means can.split cause
 
 -- of each command that gives something only where there is a split list
-pub split_outcome : (most : ℕ) (Gives : OrderView → List ℕ → List ℕ → Type 0)
-    → ((order : OrderView) (text written : List ℕ) → Gives order text written → CanSplit most order.from text) → HasOneOutcome (promise_within most Gives)
+pub split_outcome : (most : OrderView → ℕ) (Gives : OrderView → List ℕ → List ℕ → Type 0)
+    → ((order : OrderView) (text written : List ℕ) → Gives order text written → CanSplit (most order) order.from text)
+    → HasOneOutcome (promise_within most Gives)
 split_outcome most Gives can = record {
-  never_both = λ order text written fault given cause exact. can_stop most order text fault (can order text written given) cause;
-  one_cause = λ order text fault exact cause other is. inl (split_cause most order text fault exact cause other);
-  free = λ order text fault served cause. can_stop most order text fault served cause;
+  never_both = λ order text written fault given cause exact. can_stop (most order) order text fault (can order text written given) cause;
+  one_cause = λ order text fault exact cause other is. inl (split_cause (most order) order text fault exact cause other);
+  free = λ order text fault served cause. can_stop (most order) order text fault served cause;
   long = λ order text over. over;
-  among = λ order text fault cause. among most order text fault cause;
+  among = λ order text fault cause. among (most order) order text fault cause;
 }
 
 pub convert_outcome : HasOneOutcome promise
 convert_outcome =
-    split_outcome MOST_GATES promise.Gives
+    split_outcome (λ order. MOST_GATES) promise.Gives
     (λ order text written given. record { circuit = given.circuit; means = given.means; added = given.added; gates = given.gates; split = given.made })
 
 -- ---- what the file means

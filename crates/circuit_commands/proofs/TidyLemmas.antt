@@ -1,22 +1,27 @@
 -- `tidy`: what is tidied from the split list of a text's circuit, and the file of it.
-use Rattle.std.proofs.Common.{◌≡◌, ℕ, ◌+◌, Bool, true, false, List, [], ◌∷◌, ◌++◌, length, refl, sym, ap, ◌∙◌, subst, arith}
+use Rattle.std.proofs.Common.{◌≡◌, ℕ, ◌+◌, ◌<◌, ◌≤◌, Bool, true, false, List, [], ◌∷◌, ◌++◌, length, refl, sym, ap, ◌∙◌, subst, arith}
 use Rattle.std.proofs.lemmas.List.{length-append}
-use Rattle.mct_circuit.specs.Gates.{CircuitView, GateView, line_map}
+use Rattle.mct_circuit.specs.Gates.{AreGatesOn, AreNarrow, CircuitView, GateView, line_map}
+use Rattle.circuit_plans.specs.declared.plan.TheConstants.{MOST_GATES, MOST_LINES}
+use Rattle.real_format.specs.declared.file.Mark.{Mark}
 use Rattle.real_format.specs.declared.file.Mark.TheVariants.{Free}
 use Rattle.circuit_tidy.specs.Tidied.{IsTidied}
+use Rattle.flip_orders.specs.Orders.{AreReordered}
+use Rattle.flip_orders.proofs.ReorderingLemmas.{length-reordered}
+use Rattle.revc_words.specs.declared.order.Aim.{Aim}
+use Rattle.revc_words.specs.declared.order.Aim.TheVariants.{Gates, Depth, Order}
 use Rattle.revc_words.specs.declared.order.Format.{Format}
 use Rattle.command_answers.specs.Outcomes.{HasOneOutcome}
-use Rattle.circuit_commands.specs.declared.limits.TheConstants.{MOST_TIDIED_GATES}
-use Rattle.circuit_commands.specs.Circuits.{ReadCircuit, line_count}
+use Rattle.circuit_commands.specs.Circuits.{ReadCircuit, line_count, marked}
 use Rattle.circuit_commands.specs.Convert.{DoesTheSame, added_lines, converted}
 use Rattle.circuit_commands.specs.Outcomes.{ConvertedView, IsConversion}
-use Rattle.circuit_commands.specs.Tidy.{IsTidiedFrom, promise}
-use Rattle.circuit_commands.specs.inside.Splitting.{IsWritable, SplitsText}
+use Rattle.circuit_commands.specs.Tidy.{AreMadeFor, AreTidiedInOrder, IsTidiedFor, most_gates, promise}
+use Rattle.circuit_commands.specs.inside.Splitting.{IsRemade, SplitsText}
 use Rattle.circuit_commands.proofs.ConvertLemmas.{conversion, converted_gates, split_outcome}
 
 pub tidy_outcome : HasOneOutcome promise
 tidy_outcome =
-    split_outcome MOST_TIDIED_GATES promise.Gives
+    split_outcome (λ order. most_gates order.aim) promise.Gives
     (λ order text written given. record {
       circuit = given.circuit;
       means = given.means;
@@ -25,7 +30,49 @@ tidy_outcome =
       split = given.made.split;
     })
 
--- what is tidied does what the circuit does
+-- ---- what is made of gates
+
+-- what is made for any aim has the line map of the gates
+pub same_made : (aim : Aim) (lines : ℕ) (before gates : List GateView) → AreMadeFor aim lines before gates
+    → (bits : List Bool) → length bits ≡ lines → line_map gates bits ≡ line_map before bits
+same_made Gates lines before gates is bits long = is.same bits long
+same_made Depth lines before gates is bits long = is.order.same bits ∙ is.tidied.same bits long
+same_made Order lines before gates is bits long = is.same bits
+
+-- tidied first, and then in another order
+pub tidied_then_reordered : (split between made : ConvertedView) → IsRemade (IsTidied (line_count split.circuit)) split between
+    → IsRemade AreReordered between made → IsRemade (AreTidiedInOrder (line_count split.circuit)) split made
+tidied_then_reordered split between made one other =
+    record {
+      gates = record { between = between.circuit.gates; tidied = one.gates; order = other.gates };
+      are = other.are
+          ∙ ap (λ (m : ConvertedView). let r : ConvertedView = record m { circuit = record m.circuit { gates = made.circuit.gates } } in r) one.are;
+      writable = other.writable;
+    }
+
+-- a circuit with its gates in another order, on the lines of its marks
+pub remade_in_order : (constants : List Mark) (garbage : List Bool) (added : Bool) (old new : List GateView) (circuit : CircuitView)
+    → AreReordered old circuit.gates → circuit.gates ≡ new → circuit.lines ≡ length constants → AreNarrow new → AreGatesOn circuit.lines circuit.gates
+    → length garbage ≡ length constants → added_lines added < length constants → length constants ≤ MOST_LINES → length old ≤ MOST_GATES
+    → IsRemade AreReordered (record { circuit = marked constants garbage old; added = added })
+    (record { circuit = marked constants garbage new; added = added })
+remade_in_order constants garbage added old new circuit is same lines narrow placed long own few few_gates =
+    let here = subst (AreReordered old) same is in
+    record {
+      gates = here;
+      are = refl;
+      writable = record {
+        own = own;
+        few = few;
+        garbage = long;
+        narrow = narrow;
+        placed = subst (λ n. AreGatesOn n new) lines (subst (AreGatesOn circuit.lines) same placed);
+        few_gates = (let e = length-reordered old new here in omega (arith, e, few_gates));
+      };
+    }
+
+-- ---- what is tidied does what the circuit does
+
 same_tidied : (circuit : ReadCircuit) (added : Bool) (before gates : List GateView) → DoesTheSame circuit added before
     → ((bits : List Bool) → length bits ≡ line_count circuit + added_lines added → line_map gates bits ≡ line_map before bits)
     → DoesTheSame circuit added gates
@@ -45,30 +92,28 @@ gates_replaced : (circuit : ReadCircuit) (added : Bool) (before gates : List Gat
 gates_replaced circuit false before gates = refl
 gates_replaced circuit true before gates = refl
 
--- what is tidied from the split list of a text, with the marks of its lines
-pub tidied_written : (from : Format) (text : List ℕ) (split made : ConvertedView) (narrow : CircuitView) (gates : List GateView)
-    → SplitsText MOST_TIDIED_GATES from text split → narrow.lines ≡ line_count split.circuit → narrow.gates ≡ split.circuit.gates
-    → IsTidied narrow.lines narrow.gates gates → made ≡ record split { circuit = record split.circuit { gates = gates } } → IsWritable made
-    → IsConversion IsTidiedFrom from text made
-tidied_written from text split made narrow gates s own_lines own_gates t is writable =
+-- what is made of the split list of a text, with the marks of its lines
+pub tidied_written : (aim : Aim) (from : Format) (text : List ℕ) (split made : ConvertedView) → SplitsText (most_gates aim) from text split
+    → IsRemade (AreMadeFor aim (line_count split.circuit)) split made → IsConversion (IsTidiedFor aim) from text made
+tidied_written aim from text split made s is =
     let source = s.circuit in
     let before = s.split.gates in
+    let gates = made.circuit.gates in
     let are = s.split.placed.are in
-    let added : split.added ≡ made.added = sym (ap (λ (m : ConvertedView). m.added) is) in
-    let old : narrow.gates ≡ before = own_gates ∙ ap (λ (c : ReadCircuit). c.gates) are ∙ converted_gates source split.added before in
-    let lines : narrow.lines ≡ line_count source + added_lines split.added =
-    own_lines ∙ ap line_count are ∙ lines_converted source split.added before
+    let added : split.added ≡ made.added = sym (ap (λ (m : ConvertedView). m.added) is.are) in
+    let old : split.circuit.gates ≡ before = ap (λ (c : ReadCircuit). c.gates) are ∙ converted_gates source split.added before in
+    let lines : line_count split.circuit ≡ line_count source + added_lines split.added = ap line_count are ∙ lines_converted source split.added before in
+    let made_of : AreMadeFor aim (line_count source + added_lines split.added) before gates =
+    subst (λ (gs : List GateView). AreMadeFor aim (line_count source + added_lines split.added) gs gates) old
+    (subst (λ n. AreMadeFor aim n split.circuit.gates gates) lines is.gates)
     in
-    let tidied : IsTidied (line_count source + added_lines split.added) before gates =
-    subst (λ (gs : List GateView). IsTidied (line_count source + added_lines split.added) gs gates) old
-    (subst (λ n. IsTidied n narrow.gates gates) lines t)
-    in
-    let made_from : IsTidiedFrom source split.added gates = record { before = before; split = s.split.split; tidied = tidied } in
-    let same = same_tidied source split.added before gates s.split.placed.same tidied.same in
-    conversion IsTidiedFrom from text source gates made s.means (subst (λ (b : Bool). IsTidiedFrom source b gates) added made_from)
+    let made_from : IsTidiedFor aim source split.added gates = record { before = before; split = s.split.split; made = made_of } in
+    let same = same_tidied source split.added before gates s.split.placed.same
+    (same_made aim (line_count source + added_lines split.added) before gates made_of) in
+    conversion (IsTidiedFor aim) from text source gates made s.means (subst (λ (b : Bool). IsTidiedFor aim source b gates) added made_from)
     (record {
-      are = ap (λ (m : ConvertedView). m.circuit) is ∙ ap (λ (c : ReadCircuit). let r : ReadCircuit = record c { gates = gates } in r) are
+      are = ap (λ (m : ConvertedView). m.circuit) is.are ∙ ap (λ (c : ReadCircuit). let r : ReadCircuit = record c { gates = gates } in r) are
           ∙ gates_replaced source split.added before gates ∙ ap (λ (b : Bool). converted source b gates) added;
-      writable = writable;
+      writable = is.writable;
       same = subst (λ (b : Bool). DoesTheSame source b gates) added same;
     })

@@ -121,10 +121,12 @@ IsCause most order text (Gates limit) = PassesGates most order.from text limit
 IsCause most order text _ = ⊥
 
 -- where it has one, a command serves: these bytes are what it gives
-abbrev pub promise_within : (most : ℕ) → (OrderView → List ℕ → List ℕ → Type 0) → Promise
+abbrev pub promise_within : (most : OrderView → ℕ) → (OrderView → List ℕ → List ℕ → Type 0)
+    → Promise
 promise_within most Gives =
-    exact_promise (Some circuit_limit) (6 ∷ 7 ∷ 8 ∷ []) Gives (IsCause most)
-    (λ order text. CanSplit most order.from text)
+    exact_promise (Some circuit_limit) (6 ∷ 7 ∷ 8 ∷ []) Gives
+    (λ order. IsCause (most order) order)
+    (λ order text. CanSplit (most order) order.from text)
 
 -- which gates are made of a circuit, whose last line was added or not
 abbrev pub Narrowing : Type 1
@@ -151,4 +153,4 @@ abbrev pub Gives : OrderView → List ℕ → List ℕ → Type 0
 Gives order text written = IsNarrowFile IsSplitInto order.from order.to text written
 
 abbrev pub promise : Promise
-promise = promise_within MOST_GATES Gives
+promise = promise_within (λ order. MOST_GATES) Gives

@@ -14,11 +14,13 @@ ghost use Rattle.circuit_commands.specs.Outcomes.{IsConvertFault};
 ghost use Rattle.circuit_commands.specs.inside.Splitting.{HasLines, IsMarked, IsNarrowOf};
 ghost use Rattle.circuit_commands.specs.inside.Splitting.{IsOnLinesOf, IsSplitFault, IsSplitOf};
 ghost use Rattle.circuit_commands.specs.inside.Splitting.{SplitsText};
-ghost use Rattle.circuit_commands.specs.inside.Splitting.{IsWritable};
+ghost use Rattle.circuit_commands.specs.inside.Splitting.{IsRemade, IsWritable};
+ghost use Rattle.flip_orders.specs.Orders.{AreReordered};
 
 use crate::circuit::{MarkedCircuit, read_circuit};
 use circuit_plans::{MOST_GATES, MOST_LINES, Narrow};
 use command_answers::Fault;
+use flip_orders::{Goal, best_order};
 use gate_split::{SplitFault, are_narrow, split};
 use mct_circuit::Circuit;
 use real_format::Mark;
@@ -58,8 +60,30 @@ impl Converted {
     pub(crate) fn narrow(&self) -> &Narrow
         ensures lines { result.now.lines ≡ line_count self.now.circuit }
         ensures gates { result.now.gates ≡ self.now.circuit.gates }
+        ensures few_gates { length self.now.circuit.gates ≤ MOST_GATES }
     {
         &self.circuit
+    }
+
+    // The gates in the best order that was found, first by the Toffoli depth.
+    pub(crate) fn in_best_order(self, alloc: Global) -> Result<Converted, Memory>
+        ensures { IfOk result (IsRemade AreReordered self) }
+    {
+        let Converted {
+            circuit,
+            constants,
+            garbage,
+            added,
+        } = self;
+        let circuit = best_order(alloc, circuit, Goal::Toffoli)?;
+        // This call says that the gates are on the lines.
+        let _ = circuit.circuit().lines();
+        Ok(Converted {
+            circuit,
+            constants,
+            garbage,
+            added,
+        })
     }
 
     // Other gates on the same lines.

@@ -16,6 +16,7 @@ use Rattle.program_commands.specs.Compile.{HasFittingRow, IsCompiled, PassesBudg
 use Rattle.revc_words.specs.Words.{OrderView}
 use Rattle.revc_words.specs.declared.commands.Command.TheVariants.{Compile}
 use Rattle.revc_words.specs.declared.limits.TheConstants.{USUAL_LINES, USUAL_GATES, USUAL_NODES}
+use Rattle.revc_words.specs.declared.order.Aim.TheVariants.{Gates}
 use Rattle.revc_words.specs.declared.order.Format.{Format}
 use Rattle.revc_words.specs.declared.order.Format.TheVariants as formats
 use Rattle.revc_words.specs.declared.order.Way.TheVariants.{Diagrams}
@@ -40,6 +41,7 @@ compile_order format = record {
   format = format;
   from = formats.Real;
   to = formats.Qasm;
+  aim = Gates;
   kind = Add;
   by = 0;
   write = Program;

@@ -150,7 +150,7 @@ pub fn prepare(alloc: Global, order: &Order, text: Vec<u8>) -> Result<Prepared, 
             Ok(Prepared::Converted(order.values.to, converted))
         }
         Command::Tidy => {
-            let tidied = tidy::tidy(alloc, text, order.values.from)?;
+            let tidied = tidy::tidy(alloc, text, order.values.from, order.values.aim)?;
             Ok(Prepared::Converted(order.values.to, tidied))
         }
         Command::Gen => Ok(Prepared::Program(generate::program(alloc, order.number)?)),

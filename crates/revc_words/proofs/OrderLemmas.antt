@@ -26,17 +26,19 @@ use Rattle.revc_words.specs.declared.commands.TheConstants.Command.{ALL}
 use Rattle.revc_words.specs.declared.commands.Positional.{Positional}
 use Rattle.revc_words.specs.declared.commands.Positional.TheVariants.{Nothing, Word, Words, Number, KindAndNumber}
 use Rattle.revc_words.specs.Commands.{factor_option, name_of, options_of, takes_of, way_option}
+use Rattle.revc_words.specs.declared.order.Aim.{Aim}
 use Rattle.revc_words.specs.declared.order.Format.TheVariants.{Real, Qasm}
 use Rattle.revc_words.specs.declared.order.Values.{Values}
 use Rattle.revc_words.specs.declared.order.Way.{Way}
+use Rattle.revc_words.specs.declared.order.Write.{Write}
 use Rattle.revc_words.specs.Words.{order_of, order_with, OrderView, IsOrder, HasNoOrder, HasFactor, IsBy, IsWay, IsNumberIn, OneOrder, Taken, TakesWords}
 use Rattle.revc_words.specs.Words.{TakesKind, TakesNumber, Setting, Reads, nothing_left, all_behind, kind_word, taken_of}
 use Rattle.revc_words.specs.Words.{joined, parted, positional, IsOneOf, first_word, is_option, value_of, IsGivenOnce}
-use Rattle.revc_words.specs.inside.Parsing.{Texts, app_for, bits_for, command_named, kind_for, kind_of, number_for, number_of, number_word, order_by, order_for}
+use Rattle.revc_words.specs.inside.Parsing.{Texts, aim_of, write_of, app_for, bits_for, command_named, kind_for, kind_of, number_for, number_of, number_word, order_by, order_for}
 use Rattle.revc_words.specs.inside.Parsing.{order_of_texts, parsed, takes_any, takes_count, takes_factor, texts_by, texts_in, value_or, values_of}
 use Rattle.revc_words.specs.inside.Parsing.{takes_kind, with_factor}
 use Rattle.revc_words.proofs.ValueLemmas.{Rule, plan_rule, lines_rule, gates_rule, borrow_rule, nodes_rule, start_rule, way_rule, format_rule, by_rule}
-use Rattle.revc_words.proofs.ValueLemmas.{write_rule, number_says, number_found, kind_named, kind_says, right, kept, text_is_no_option}
+use Rattle.revc_words.proofs.ValueLemmas.{aim_rule, write_rule, number_says, number_found, kind_named, kind_says, right, kept, text_is_no_option}
 use Rattle.revc_words.proofs.WalkLemmas.{by_test, is_one_of, filled_app, run, clap_says, AreTexts}
 use Rattle.revc_words.proofs.SaidLemmas.{Said, said, read, reached, parsed as ends, Fits, AreNew, AreOnce, AreValues, IsNever}
 use Rattle.revc_words.proofs.ReadsLemmas.{is_name, known, known_says, reads, reads_so}
@@ -298,6 +300,7 @@ same_texts command rows given h = λ i. record {
   format = h (codes "format") refl i;
   from = h (codes "from") refl i;
   to = h (codes "to") refl i;
+  aim = h (codes "for") refl i;
   by = h (factor_option command) (factor_is_no_word command) i;
   write = h (codes "write") refl i;
 }
@@ -342,8 +345,37 @@ record GiveAll (texts : Texts) (v : Values) : Type 0 where
   format : Gives (format_rule Real) texts.format v.format
   from : Gives (format_rule Real) texts.from v.from
   to : Gives (format_rule Qasm) texts.to v.to
+  aim : Gives aim_rule texts.aim v.aim
   by : Gives by_rule texts.by v.by
   write : Gives write_rule texts.write v.write
+
+-- the last texts give these values
+record GiveLast (texts : Texts) (made : Aim → ℕ → Write → Values) (v : Values) : Type 0 where
+  aim : Aim
+  by : ℕ
+  write : Write
+  aim_is : Gives aim_rule texts.aim aim
+  by_is : Gives by_rule texts.by by
+  write_is : Gives write_rule texts.write write
+  same : made aim by write ≡ v
+
+last_say : (texts : Texts) (made : Aim → ℕ → Write → Values) (v : Values)
+    → option_and_then (λ aim. option_and_then (λ by. option_and_then (λ write. Some (made aim by write)) (value_or write_rule.usual write_of texts.write))
+    (value_or by_rule.usual by_rule.value texts.by)) (value_or aim_rule.usual aim_of texts.aim) ≡ Some v
+    → GiveLast texts made v
+last_say texts made v e =
+    let aim = and_says _ _ v e in
+    let by = and_says _ _ v aim.2 in
+    let write = and_says _ _ v by.2 in
+    record {
+      aim = aim.0;
+      by = by.0;
+      write = write.0;
+      aim_is = aim.1;
+      by_is = by.1;
+      write_is = write.1;
+      same = same_Some _ _ write.2;
+    }
 
 values_say : (texts : Texts) (v : Values) → values_of texts ≡ Some v → GiveAll texts v
 values_say texts v e =
@@ -357,9 +389,22 @@ values_say texts v e =
     let format = and_says _ _ v way.2 in
     let from = and_says _ _ v format.2 in
     let to = and_says _ _ v from.2 in
-    let by = and_says _ _ v to.2 in
-    let write = and_says _ _ v by.2 in
-    let same = same_Some _ _ write.2 in
+    let last = last_say texts (λ aim by write. record {
+      plan = plan.0;
+      lines = lines.0;
+      gates = gates.0;
+      borrow = borrow.0;
+      nodes = nodes.0;
+      outputs = outputs.0;
+      way = way.0;
+      format = format.0;
+      from = from.0;
+      to = to.0;
+      aim = aim;
+      by = by;
+      write = write;
+    }) v to.2 in
+    let same = last.same in
     record {
       plan = plan.1 ∙ ap (λ (all : Values). Some all.plan) same;
       lines = lines.1 ∙ ap (λ (all : Values). Some all.lines) same;
@@ -371,8 +416,9 @@ values_say texts v e =
       format = format.1 ∙ ap (λ (all : Values). Some all.format) same;
       from = from.1 ∙ ap (λ (all : Values). Some all.from) same;
       to = to.1 ∙ ap (λ (all : Values). Some all.to) same;
-      by = by.1 ∙ ap (λ (all : Values). Some all.by) same;
-      write = write.1 ∙ ap (λ (all : Values). Some all.write) same;
+      aim = last.aim_is ∙ ap (λ (all : Values). Some all.aim) same;
+      by = last.by_is ∙ ap (λ (all : Values). Some all.by) same;
+      write = last.write_is ∙ ap (λ (all : Values). Some all.write) same;
     }
 
 -- ---- each option is given once
@@ -438,6 +484,7 @@ order_is words behind command what order named found once e =
       format = right (format_rule Real) (value_of (codes "format") what.given) values.format all.format;
       from = right (format_rule Real) (value_of (codes "from") what.given) values.from all.from;
       to = right (format_rule Qasm) (value_of (codes "to") what.given) values.to all.to;
+      aim = right aim_rule (value_of (codes "for") what.given) values.aim all.aim;
       by = by;
       write = right write_rule (value_of (codes "write") what.given) values.write all.write;
     } in
@@ -464,6 +511,7 @@ said_so words order is =
       format = order.format;
       from = order.from;
       to = order.to;
+      aim = order.aim;
       by = order.by;
       write = order.write;
     } in
@@ -478,6 +526,7 @@ said_so words order is =
       kept (format_rule Real) (value_of (codes "format") is.given) order.format is.format,
       kept (format_rule Real) (value_of (codes "from") is.given) order.from is.from,
       kept (format_rule Qasm) (value_of (codes "to") is.given) order.to is.to,
+      kept aim_rule (value_of (codes "for") is.given) order.aim is.aim,
       kept by_rule (value_of (factor_option order.command) is.given) order.by is.by,
       kept write_rule (value_of (codes "write") is.given) order.write is.write,
     ) refl in
@@ -541,7 +590,7 @@ among P (option ∷ options) name all (inr rest) = among P options name all.1 re
 abbrev all_options : List (List ℕ)
 all_options =
     codes "plan" ∷ codes "lines" ∷ codes "gates" ∷ codes "borrow" ∷ codes "nodes" ∷ codes "outputs" ∷ codes "format" ∷ codes "from"
-    ∷ codes "to" ∷ codes "by" ∷ codes "write" ∷ []
+    ∷ codes "to" ∷ codes "for" ∷ codes "by" ∷ codes "write" ∷ []
 
 known_options : (command : Command) → list_all (is_one_of all_options) (options_of command) ≡ true
 known_options Compile = refl
@@ -560,7 +609,7 @@ safe_by command given by way is gives = record { each = λ word e. text_is_no_op
 safe : (words : List (List ℕ)) (order : OrderView) → (is : IsOrder words order) → AllByRecursion (IsSafe is.given) (options_of order.command)
 safe words order is =
     each_of (IsSafe is.given) all_options (options_of order.command)
-    (plan, (lines, (gates, (borrow, (nodes, (outputs, (format, (from, (to, (by, (write, tt))))))))))) (known_options order.command)
+    (plan, (lines, (gates, (borrow, (nodes, (outputs, (format, (from, (to, (aim, (by, (write, tt)))))))))))) (known_options order.command)
   where
     plan : IsSafe is.given (codes "plan")
     plan = record { each = λ word e. text_is_no_option plan_rule (value_of (codes "plan") is.given) order.plan word is.plan e }
@@ -588,6 +637,9 @@ safe words order is =
 
     to : IsSafe is.given (codes "to")
     to = record { each = λ word e. text_is_no_option (format_rule Qasm) (value_of (codes "to") is.given) order.to word is.to e }
+
+    aim : IsSafe is.given (codes "for")
+    aim = record { each = λ word e. text_is_no_option aim_rule (value_of (codes "for") is.given) order.aim word is.aim e }
 
     by : IsSafe is.given (codes "by")
     by = safe_by order.command is.given order.by order.way is.by is.way

@@ -15,6 +15,8 @@ use Rattle.circuit_plans.specs.declared.plan.TheConstants.{MOST_LINES, MOST_GATE
 use Rattle.circuit_plans.specs.declared.choice.Plan.{Plan}
 use Rattle.circuit_plans.specs.declared.choice.Plan.TheVariants.{Auto, Compact, Eager, Lean, Pebble, Shallow}
 use Rattle.revc_words.specs.declared.limits.TheConstants.{MOST_DIGITS, MOST_NODES, USUAL_LINES, USUAL_GATES, USUAL_NODES}
+use Rattle.revc_words.specs.declared.order.Aim.{Aim}
+use Rattle.revc_words.specs.declared.order.Aim.TheVariants as aims
 use Rattle.revc_words.specs.declared.order.Format.{Format}
 use Rattle.revc_words.specs.declared.order.Format.TheVariants.{Real, Qasm}
 use Rattle.circuit_plans.specs.declared.roles.Start.{Start}
@@ -23,8 +25,8 @@ use Rattle.revc_words.specs.declared.order.Way.{Way}
 use Rattle.revc_words.specs.declared.order.Way.TheVariants.{Both, Diagrams, Sums}
 use Rattle.revc_words.specs.declared.order.Write.{Write}
 use Rattle.revc_words.specs.declared.order.Write.TheVariants as writes
-use Rattle.revc_words.specs.Words.{IsNumberIn, plan_word, start_word, way_word, format_word, kind_word, write_word, is_option}
-use Rattle.revc_words.specs.inside.Parsing.{first_with, is_number_in, number_of, plan_of, start_of, way_of, format_of, kind_of, write_of, value_or}
+use Rattle.revc_words.specs.Words.{IsNumberIn, plan_word, start_word, way_word, format_word, kind_word, aim_word, write_word, is_option}
+use Rattle.revc_words.specs.inside.Parsing.{first_with, is_number_in, number_of, plan_of, start_of, way_of, format_of, kind_of, aim_of, write_of, value_or}
 
 digits : IsNumeralModel (λ ds. all_ascii_digits ds ≡ true) (digits_value 10)
 digits = numerals_by_value _ tells_all_ascii_digits
@@ -146,6 +148,11 @@ way_named Diagrams = refl
 way_named Sums = refl
 way_named Both = refl
 
+pub aim_named : (aim : Aim) → aim_of (aim_word aim) ≡ Some aim
+aim_named aims.Gates = refl
+aim_named aims.Depth = refl
+aim_named aims.Order = refl
+
 pub write_named : (write : Write) → write_of (write_word write) ≡ Some write
 write_named writes.Program = refl
 write_named writes.Real = refl
@@ -222,6 +229,21 @@ way_rule = record {
   says = first_says way_word (Diagrams ∷ Sums ∷ Both ∷ []);
   found = λ word way is. ap way_of is ∙ way_named way;
   no_option = λ word way is. ap is_option is ∙ way_is_no_option way;
+}
+
+pub aim_is_no_option : (aim : Aim) → is_option (aim_word aim) ≡ false
+aim_is_no_option aims.Gates = refl
+aim_is_no_option aims.Depth = refl
+aim_is_no_option aims.Order = refl
+
+abbrev pub aim_rule : Rule Aim
+aim_rule = record {
+  value = aim_of;
+  Writes = λ word aim. word ≡ aim_word aim;
+  usual = aims.Gates;
+  says = first_says aim_word (aims.Gates ∷ aims.Depth ∷ aims.Order ∷ []);
+  found = λ word aim is. ap aim_of is ∙ aim_named aim;
+  no_option = λ word aim is. ap is_option is ∙ aim_is_no_option aim;
 }
 
 pub write_is_no_option : (write : Write) → is_option (write_word write) ≡ false

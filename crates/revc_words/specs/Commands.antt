@@ -31,7 +31,7 @@ spelling_of Convert = record {
 }
 spelling_of Tidy = record {
   name = codes "tidy";
-  options = codes "from" ∷ codes "to" ∷ [];
+  options = codes "from" ∷ codes "to" ∷ codes "for" ∷ [];
   takes = Nothing;
 }
 spelling_of Gen = record { name = codes "gen"; options = []; takes = Number }

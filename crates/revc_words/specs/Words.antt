@@ -19,6 +19,8 @@ use Rattle.revc_words.specs.Commands.{factor_option, name_of, options_of, takes_
 use Rattle.revc_words.specs.declared.commands.Command.{Command}
 use Rattle.revc_words.specs.declared.commands.Positional.{Positional}
 use Rattle.revc_words.specs.declared.commands.Positional.TheVariants.{Nothing, Word, Words, Number, KindAndNumber}
+use Rattle.revc_words.specs.declared.order.Aim.{Aim}
+use Rattle.revc_words.specs.declared.order.Aim.TheVariants as aims
 use Rattle.revc_words.specs.declared.order.Format.{Format}
 use Rattle.revc_words.specs.declared.order.Format.TheVariants.{Real, Qasm}
 use Rattle.revc_words.specs.declared.order.Way.{Way}
@@ -37,8 +39,9 @@ words_of words = map string_bytes words
 -- a command, the plans that it tries, the most lines and gates of its circuit, how many lines it
 -- borrows, the most nodes of its diagrams, what its output lines may hold at the start, the way by
 -- which a circuit is verified, the format of the circuit of a program, the formats that `convert`
--- and `tidy` read and write, what a program computes of numbers, the factor by which it multiplies,
--- what is written of it, how many bits its numbers have, and words of bits
+-- and `tidy` read and write, for what a circuit is tidied, what a program computes of numbers, the
+-- factor by which it multiplies, what is written of it, how many bits its numbers have, and words
+-- of bits
 pub record OrderView : Type 0 where
   pub command : Command
   pub plan : Plan
@@ -51,6 +54,7 @@ pub record OrderView : Type 0 where
   pub format : Format
   pub from : Format
   pub to : Format
+  pub aim : Aim
   pub kind : Kind
   pub by : ℕ
   pub write : Write
@@ -71,6 +75,7 @@ order_with command values kind number bits = record {
   format = values.format;
   from = values.from;
   to = values.to;
+  aim = values.aim;
   kind = kind;
   by = values.by;
   write = values.write;
@@ -169,6 +174,12 @@ abbrev pub format_word : Format → List ℕ
 format_word Real = codes "real"
 format_word Qasm = codes "qasm"
 
+-- the word for what a circuit is tidied for
+abbrev pub aim_word : Aim → List ℕ
+aim_word aims.Gates = codes "gates"
+aim_word aims.Depth = codes "depth"
+aim_word aims.Order = codes "order"
+
 -- the word for what is written of a program
 abbrev pub write_word : Write → List ℕ
 write_word writes.Program = codes "program"
@@ -229,6 +240,10 @@ IsFrom given from = IsChosen (codes "from") format_word Real given from
 -- the format that `convert` and `tidy` write: the one given, or OpenQASM
 abbrev pub IsTo : List Setting → Format → Type 0
 IsTo given to = IsChosen (codes "to") format_word Qasm given to
+
+-- for what a circuit is tidied: what is given, or few gates
+abbrev pub IsAim : List Setting → Aim → Type 0
+IsAim given aim = IsChosen (codes "for") aim_word aims.Gates given aim
 
 -- the factor: the one that is given to the command, from 1 on, or 0
 abbrev pub IsBy : Command → List Setting → ℕ → Type 0
@@ -317,6 +332,7 @@ pub record IsOrder (words : List (List ℕ)) (order : OrderView) : Type 0 where
   pub format : IsFormat given order.format
   pub from : IsFrom given order.from
   pub to : IsTo given order.to
+  pub aim : IsAim given order.aim
   pub by : IsBy order.command given order.by
   pub write : IsWrite given order.write
 

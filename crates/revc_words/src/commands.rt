@@ -20,7 +20,8 @@ pub enum Command {
     Run,
     /// Reads a circuit and writes the file of a narrow one with the same line map.
     Convert,
-    /// Reads a circuit and writes the file of fewer narrow gates with the same line map.
+    /// Reads a circuit and writes the file of fewer narrow gates, or of a smaller depth, with the
+    /// same line map.
     Tidy,
     /// Writes the program of an adder.
     Gen,
@@ -90,7 +91,7 @@ impl Command {
             Command::Stat => spelled("stat", &["from"], Positional::Nothing),
             Command::Run => spelled("run", &["from"], Positional::Words),
             Command::Convert => spelled("convert", &["from", "to"], Positional::Nothing),
-            Command::Tidy => spelled("tidy", &["from", "to"], Positional::Nothing),
+            Command::Tidy => spelled("tidy", &["from", "to", "for"], Positional::Nothing),
             Command::Gen => spelled("gen", &[], Positional::Number),
             Command::Bench => spelled(
                 "bench",

@@ -26,6 +26,17 @@ pub enum Way {
     Both,
 }
 
+/// For what a circuit is tidied.
+#[derive(Clone, Copy, PartialEq, Eq)]
+pub enum Aim {
+    /// Few gates.
+    Gates,
+    /// Few gates, and then a small depth.
+    Depth,
+    /// A small depth by another order of its gates alone.
+    Order,
+}
+
 /// What is written of a program that computes with numbers.
 #[derive(Clone, Copy, PartialEq, Eq)]
 pub enum Write {
@@ -60,6 +71,8 @@ pub struct Values {
     pub from: Format,
     /// The format in which a circuit that was read is written.
     pub to: Format,
+    /// For what a circuit is tidied.
+    pub aim: Aim,
     /// The constant by which a program multiplies, 1 to 9,999; 0 for one that does not.
     pub by: u32,
     /// What is written of a program that computes with numbers.
@@ -79,6 +92,7 @@ impl Values {
         format: Format::Real,
         from: Format::Real,
         to: Format::Qasm,
+        aim: Aim::Gates,
         by: 0,
         write: Write::Program,
     };

@@ -4,9 +4,9 @@ ghost use Rattle.clap.specs.Words.{first_of, found_of, rows_of};
 ghost use Rattle.revc_words.specs.Commands.{factor_option, way_option};
 ghost use Rattle.revc_words.specs.inside.Parsing.{kind_of, number_of, text_at};
 ghost use Rattle.revc_words.specs.inside.Parsing.{texts_in, value_or, values_of, plan_of};
-ghost use Rattle.revc_words.specs.inside.Parsing.{format_of, start_of, way_of, write_of};
+ghost use Rattle.revc_words.specs.inside.Parsing.{aim_of, format_of, start_of, way_of, write_of};
 
-use crate::{Command, Format, MOST_DIGITS, MOST_NODES, Values, Way, Write};
+use crate::{Aim, Command, Format, MOST_DIGITS, MOST_NODES, Values, Way, Write};
 use arith_templates::{Kind, MOST_FACTOR};
 use circuit_plans::{MOST_BORROWED, MOST_GATES, MOST_LINES, Plan, Start};
 use clap::ArgMatches;
@@ -29,6 +29,7 @@ pub fn values_given(command: Command, matches: &ArgMatches) -> Option<Values>
         format: chosen(text(matches, "format"), usual.format)?,
         from: chosen(text(matches, "from"), usual.from)?,
         to: chosen(text(matches, "to"), usual.to)?,
+        aim: chosen(text(matches, "for"), usual.aim)?,
         by: number_or(factor_text(command, matches), 1, MOST_FACTOR, usual.by)?,
         write: chosen(text(matches, "write"), usual.write)?,
     })
@@ -147,6 +148,19 @@ impl Choice for Format {
         match name {
             "real" => Some(Format::Real),
             "qasm" => Some(Format::Qasm),
+            _ => None,
+        }
+    }
+}
+
+impl Choice for Aim {
+    ghost choice = { aim_of };
+
+    fn named(name: &str) -> Option<Aim> {
+        match name {
+            "gates" => Some(Aim::Gates),
+            "depth" => Some(Aim::Depth),
+            "order" => Some(Aim::Order),
             _ => None,
         }
     }

@@ -66,6 +66,14 @@ pub record SplitsText (most : ℕ) (from : Format) (text : List ℕ) (made : Con
   pub means : Means from text circuit
   pub split : IsSplitOf most circuit made
 
+-- the circuit with other gates, which are made of its own
+pub record IsRemade (Makes : (before gates : List GateView) → Type 0) (split made : ConvertedView)
+    : Type 0 where
+  pub gates : Makes split.circuit.gates made.circuit.gates
+  pub are : made
+      ≡ record split { circuit = record split.circuit { gates = made.circuit.gates } }
+  pub writable : IsWritable made
+
 -- the circuit has a split list of at most so many gates, on its own lines or on one more
 pub record HasSomeSplit (most : ℕ) (circuit : ReadCircuit) : Type 0 where
   pub added : Bool

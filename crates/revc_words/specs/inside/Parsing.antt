@@ -21,6 +21,8 @@ use Rattle.revc_words.specs.declared.commands.Command.{Command}
 use Rattle.revc_words.specs.declared.commands.TheConstants.Command.{ALL}
 use Rattle.revc_words.specs.declared.commands.Positional.{Positional}
 use Rattle.revc_words.specs.declared.commands.Positional.TheVariants.{Nothing, Word, Words, Number, KindAndNumber}
+use Rattle.revc_words.specs.declared.order.Aim.{Aim}
+use Rattle.revc_words.specs.declared.order.Aim.TheVariants as aims
 use Rattle.revc_words.specs.declared.order.Format.{Format}
 use Rattle.revc_words.specs.declared.order.Format.TheVariants.{Real, Qasm}
 use Rattle.revc_words.specs.declared.order.Way.{Way}
@@ -28,7 +30,7 @@ use Rattle.revc_words.specs.declared.order.Way.TheVariants.{Both, Diagrams, Sums
 use Rattle.revc_words.specs.declared.order.Write.{Write}
 use Rattle.revc_words.specs.declared.order.Write.TheVariants as writes
 use Rattle.revc_words.specs.declared.order.Values.{Values}
-use Rattle.revc_words.specs.Words.{OrderView, order_with, plan_word, start_word, way_word, format_word, write_word, kind_word, first_word}
+use Rattle.revc_words.specs.Words.{OrderView, order_with, plan_word, start_word, way_word, format_word, aim_word, write_word, kind_word, first_word}
 
 -- ---- the command
 
@@ -135,6 +137,9 @@ way_of word = first_with way_word (Diagrams ∷ Sums ∷ Both ∷ []) word
 abbrev pub format_of : List ℕ → Option Format
 format_of word = first_with format_word (Real ∷ Qasm ∷ []) word
 
+abbrev pub aim_of : List ℕ → Option Aim
+aim_of word = first_with aim_word (aims.Gates ∷ aims.Depth ∷ aims.Order ∷ []) word
+
 abbrev pub write_of : List ℕ → Option Write
 write_of word = first_with write_word (writes.Program ∷ writes.Real ∷ writes.Qasm ∷ []) word
 
@@ -162,6 +167,7 @@ pub record Texts : Type 0 where
   pub format : Option (List ℕ)
   pub from : Option (List ℕ)
   pub to : Option (List ℕ)
+  pub aim : Option (List ℕ)
   pub by : Option (List ℕ)
   pub write : Option (List ℕ)
 
@@ -178,6 +184,7 @@ texts_by command text_of = record {
   format = text_of (codes "format");
   from = text_of (codes "from");
   to = text_of (codes "to");
+  aim = text_of (codes "for");
   by = text_of (factor_option command);
   write = text_of (codes "write");
 }
@@ -197,6 +204,7 @@ values_of texts =
     option_and_then (λ format.
     option_and_then (λ from.
     option_and_then (λ to.
+    option_and_then (λ aim.
     option_and_then (λ by.
     option_and_then (λ write. Some (record {
       plan = plan;
@@ -209,11 +217,13 @@ values_of texts =
       format = format;
       from = from;
       to = to;
+      aim = aim;
       by = by;
       write = write;
     }))
     (value_or writes.Program write_of texts.write))
     (value_or 0 (number_of 1 MOST_FACTOR) texts.by))
+    (value_or aims.Gates aim_of texts.aim))
     (value_or Qasm format_of texts.to))
     (value_or Real format_of texts.from))
     (value_or Real format_of texts.format))
