@@ -54,11 +54,7 @@ fn lay_single(alloc: Global, graph: &Settled, budget: &Budget) -> Result<Option<
 }
 
 // The plan that is found over the graph of single products, if there is one.
-fn plan_single(
-    alloc: Global,
-    graph: &Settled,
-    budget: &Budget,
-) -> Result<Option<Planned>, Memory>
+fn plan_single(alloc: Global, graph: &Settled, budget: &Budget) -> Result<Option<Planned>, Memory>
     ensures { IfOk result (λ found. IfSome found (IsNarrowPlan Any graph.now.inputs
         (length graph.now.outputs) (settled_outputs graph.now) budget.now)) }
 {
