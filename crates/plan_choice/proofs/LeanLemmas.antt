@@ -25,7 +25,7 @@ use Rattle.sum_graph.specs.Graphs.{HasFewBits, HasNoConstant, IsLeanOf, SumGraph
 use Rattle.sum_toggles.specs.Toggles.{product_weight, toggle_weight}
 use Rattle.plan_choice.specs.declared.lean.Most.{Most}
 use Rattle.plan_choice.specs.Choices.{IsChoiceFault, IsLaidFor, IsLean, IsOfLean, LeanFits, LinesAreFew}
-use Rattle.plan_choice.specs.Lean.{CoveringFits, IsThrifty, toffoli}
+use Rattle.plan_choice.specs.Lean.{OneBlockFits, HasFewToffoliGates, toffoli}
 use Rattle.plan_choice.specs.inside.Tried as tried
 use Rattle.plan_choice.specs.inside.Tried.{IsLaidAsIs, IsLaidLean, IsLaidOfLean, IsLeanFault, IsMost, IsRow}
 use Rattle.plan_choice.proofs.SplitLemmas.{same_outputs}
@@ -59,10 +59,10 @@ pub lean_ports : {start : Start} {n o : ℕ} {value : List Bool → List Bool} {
 lean_ports is = omega (arith, is.ports.lines, is.within.lines)
 
 -- where the row was refused though memory was not wanting, it does not fit
-no_lines : (l : SumGraphView) (b : BudgetView) (need : ℕ) → IsLeanFault l b (Lines need) → ¬ CoveringFits l b
+no_lines : (l : SumGraphView) (b : BudgetView) (need : ℕ) → IsLeanFault l b (Lines need) → ¬ OneBlockFits l b
 no_lines l b need h fits = let few = h.0 in let lines = fits.lines in omega (arith, few, lines)
 
-no_gates : (l : SumGraphView) (b : BudgetView) → IsLeanFault l b Gates → ¬ CoveringFits l b
+no_gates : (l : SumGraphView) (b : BudgetView) → IsLeanFault l b Gates → ¬ OneBlockFits l b
 no_gates l b h fits = let gates = fits.gates in omega (arith, h, gates)
 
 -- ---- plans beside the row
@@ -99,7 +99,7 @@ few_gates Any l b laid gates row (inl none) = λ fits. omega (arith, none)
 few_gates Any l b laid gates row (inr less) = λ fits. (let few = row.gates in omega (arith, less, few))
 few_gates Zero l b laid gates row beside = tt
 
-any_gates : (start : Start) (l : SumGraphView) (b : BudgetView) (gates : ℕ) → ¬ CoveringFits l b → tried.HasFewGates start l b gates
+any_gates : (start : Start) (l : SumGraphView) (b : BudgetView) (gates : ℕ) → ¬ OneBlockFits l b → tried.HasFewGates start l b gates
 any_gates Any l b gates none = λ fits. absurd (none fits)
 any_gates Zero l b gates none = tt
 
@@ -128,7 +128,7 @@ most_of_nothing start l b most lines toffoli gates = record {
   gates = no_gates_are_few start l b most.gates gates;
 }
 
-pub most_of_none : (start : Start) (l : SumGraphView) (b : BudgetView) (most : Most) → ¬ CoveringFits l b
+pub most_of_none : (start : Start) (l : SumGraphView) (b : BudgetView) (most : Most) → ¬ OneBlockFits l b
     → most.lines ≡ first_work l + length l.nodes + b.borrow → IsMost start l b most
 most_of_none start l b most none lines = record {
   lines = omega (arith, lines);
@@ -192,7 +192,7 @@ row_weight s l m lean within =
     omega (arith, nodes, outputs, lean.light, lean.light_nodes, lean.outputs, within.outputs, within.steps)
 
 -- where the settled graph's row fits, the lean graph's does
-row_covers : (s : SettledView) (l : SumGraphView) (b : BudgetView) (m : Measures) → IsLeanOf s l → IsWithin s m → LeanFits b m → CoveringFits l b
+row_covers : (s : SettledView) (l : SumGraphView) (b : BudgetView) (m : Measures) → IsLeanOf s l → IsWithin s m → LeanFits b m → OneBlockFits l b
 row_covers s l b m lean within fit = record {
   lines = omega (arith, lean.inputs, lean.outputs, lean.few, within.inputs, within.outputs, within.steps, fit.few_lines);
   gates = omega (arith, row_weight s l m lean within, fit.few_gates);
@@ -202,7 +202,7 @@ module _ (s : SettledView) (l : SumGraphView) (b : BudgetView) (lean : IsLeanOf 
   ports_same : first_work l ≡ ports_of s
   ports_same = omega (arith, lean.inputs, lean.outputs)
 
-  no_row : (¬ CoveringFits l b) → (m : Measures) → IsWithin s m → ¬ LeanFits b m
+  no_row : (¬ OneBlockFits l b) → (m : Measures) → IsWithin s m → ¬ LeanFits b m
   no_row none m within fit = none (row_covers s l b m lean within fit)
 
   need_same : (need : ℕ) → need ≡ wanted_lines (first_work l) b → need ≡ wanted_lines (ports_of s) b
@@ -246,7 +246,7 @@ module _ (s : SettledView) (l : SumGraphView) (b : BudgetView) (lean : IsLeanOf 
             (same_outputs start (roles_of_plan p) p.circuit.gates (sum_outputs l) (settled_outputs s) lean.values plan.clean);
       }
 
-  thrifty : (laid : LaidView) → toffoli laid ≤ 2 * products_in l.nodes + products_in l.outputs → IsThrifty s laid
+  thrifty : (laid : LaidView) → toffoli laid ≤ 2 * products_in l.nodes + products_in l.outputs → HasFewToffoliGates s laid
   thrifty laid few = record {
     all = omega (arith, few, lean.products);
     lone = λ lone go. omega (arith, few, lean.products, lean.nodes_beside lone go);
@@ -258,7 +258,7 @@ module _ (s : SettledView) (l : SumGraphView) (b : BudgetView) (lean : IsLeanOf 
     lean = lean;
     narrow = subst AreNarrow (sym is.laid_of.as_is.same) is.laid_of.is_plan.narrow;
     lines = is.lines;
-    covering = λ fits. record { products = is.products fits; gates = is.gates fits };
+    one_block = λ fits. record { products = is.products fits; gates = is.gates fits };
     row_lines = λ m within. omega (arith, is.lines, lean.inputs, lean.outputs, lean.few, within.inputs, within.outputs, within.steps);
     row_gates = λ m within fit. (let gates = is.gates (row_covers s l b m lean within fit) in omega (arith, gates, row_weight s l m lean within));
     few = λ m within fit. thrifty laid (is.products (row_covers s l b m lean within fit));

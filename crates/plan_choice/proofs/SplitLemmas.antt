@@ -75,7 +75,7 @@ many_gates n more limit gates law few roomy refused = elim (cases_lt limit (sum_
 
 -- the split of narrow gates within the budget is refused only for want of memory
 pub narrow_refused : (p : PlannedView) (b : BudgetView) (tried : Result LaidView PlanFault) → AreNarrow p.circuit.gates → IsInBudget b p
-    → IfErr tried (IsSplitFault p.circuit.gates b) → IfErr tried (λ fault. fault ≡ Memory _)
+    → IfErr tried (IsSplitFault p b) → IfErr tried (λ fault. fault ≡ Memory _)
 narrow_refused p b (Ok laid) narrow within h = tt
 narrow_refused p b (Err (Lines need)) narrow within h = absurd h
 narrow_refused p b (Err Gates) narrow within h = absurd (omega (arith, h, narrow_weight p.circuit.gates narrow, within.gates))

@@ -17,7 +17,7 @@ use Rattle.mct_circuit.specs.Gates.{AreNarrow}
 use Rattle.eager_cleanup.specs.Eager.{AreWithinEager, ports_of}
 use Rattle.bennett_pebbling.specs.Blocks.{AreWithinBlock}
 use Rattle.plan_choice.specs.Blocks.{extent_of}
-use Rattle.plan_choice.specs.Lean.{CoveringFits, IsCovering, IsThrifty}
+use Rattle.plan_choice.specs.Lean.{OneBlockFits, HasOneBlockCosts, HasFewToffoliGates}
 use Rattle.sum_graph.specs.Graphs.{IsLeanOf, SumGraphView}
 use Rattle.circuit_plans.specs.declared.choice.Plan.{Plan}
 use Rattle.circuit_plans.specs.declared.choice.Plan.TheVariants.{Auto, Compact, Eager, Lean, Pebble, Shallow}
@@ -157,17 +157,17 @@ pub record IsLean (s : SettledView) (b : BudgetView) (laid : LaidView) : Type 0 
   pub lean : IsLeanOf s graph
   pub narrow : AreNarrow laid.circuit.gates
   pub lines : laid.circuit.lines ≤ first_work graph + length graph.nodes + b.borrow
-  pub covering : CoveringFits graph b → IsCovering graph laid
+  pub one_block : OneBlockFits graph b → HasOneBlockCosts graph laid
   pub row_lines : (m : Measures) → IsWithin s m → laid.circuit.lines ≤ lean_lines m b.borrow
   pub row_gates : (m : Measures) → IsWithin s m → LeanFits b m
       → length laid.circuit.gates ≤ 2 * lean_gates m
-  pub few : (m : Measures) → IsWithin s m → LeanFits b m → IsThrifty s laid
+  pub few : (m : Measures) → IsWithin s m → LeanFits b m → HasFewToffoliGates s laid
 
 -- A plan on output lines that begin at 0, of narrow gates: where the lean row fits, it has few
 -- Toffoli gates for the settled graph.
 pub record IsCompact (s : SettledView) (b : BudgetView) (laid : LaidView) : Type 0 where
   pub narrow : AreNarrow laid.circuit.gates
-  pub few : (m : Measures) → IsWithin s m → LeanFits b m → IsThrifty s laid
+  pub few : (m : Measures) → IsWithin s m → LeanFits b m → HasFewToffoliGates s laid
 
 -- a plan that is chosen by its Toffoli depth, of narrow gates
 pub record IsShallow (laid : LaidView) : Type 0 where

@@ -76,7 +76,7 @@ fn lay(alloc: Global, planned: Planned, budget: &Budget) -> Tried
     requires roomy { AllByRecursion (IsRoomyFlip planned.circuit.lines)
         planned.circuit.gates }
     ensures ok { IfOk result (IsLaidOf planned budget.now) }
-    ensures refused { IfErr result (IsSplitFault planned.circuit.gates budget.now) }
+    ensures refused { IfErr result (IsSplitFault planned budget.now) }
 {
     // This call says that the budget has few lines.
     let _ = budget.lines();

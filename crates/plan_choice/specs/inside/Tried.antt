@@ -10,14 +10,14 @@ use Rattle.circuit_plans.specs.declared.roles.Start.TheVariants.{Any, Zero}
 use Rattle.circuit_plans.specs.Plans.{AddsOutputs, BudgetView, HasPortLines, IsNarrowPlan, PlannedView, LaidView, roles_of, roles_of_plan, wanted_lines}
 use Rattle.claim_check.specs.Settled.{SettledView, settled_outputs}
 use Rattle.gate_split.specs.Costs.{most_gates}
-use Rattle.gate_split.specs.Split.{IsSplitList}
+use Rattle.gate_split.specs.Split.{HasSplitList, IsSplitList}
 use Rattle.mct_circuit.specs.Gates.{GateView}
 use Rattle.sum_graph.specs.Graphs.{SumGraphView, first_work, products_in, sum_outputs}
 use Rattle.plan_choice.specs.declared.lean.Most.{Most}
 use Rattle.plan_choice.specs.Blocks.{IsPebblingFault, extent_of}
 use Rattle.plan_choice.specs.Choices.{IsLaidFor, IsShallow, NoLargerFits}
 use Rattle.sum_toggles.specs.Toggles.{toggle_weight}
-use Rattle.plan_choice.specs.Lean.{CoveringFits, covering_weight, toffoli}
+use Rattle.plan_choice.specs.Lean.{OneBlockFits, one_block_weight, toffoli}
 
 -- whether there is no plan though memory was not wanting
 abbrev pub is_refusal : Result LaidView PlanFault → Bool
@@ -48,11 +48,13 @@ pub record IsLaidAsIs (p : PlannedView) (b : BudgetView) (laid : LaidView) : Typ
   pub laid_of : IsLaidOf p b laid
   pub same : laid.circuit.gates ≡ p.circuit.gates
 
--- the budget has fewer gates than the most that can stand in place of these
-abbrev pub IsSplitFault : List GateView → BudgetView → PlanFault → Type 0
-IsSplitFault gates b (Lines need) = ⊥
-IsSplitFault gates b Gates = b.gates < sum_by most_gates gates
-IsSplitFault gates b (Memory _) = ⊤
+-- the budget has fewer gates than the most that can stand in place of the plan's; memory is wanted
+-- only where they have a split list within it
+abbrev pub IsSplitFault : PlannedView → BudgetView → PlanFault → Type 0
+IsSplitFault p b (Lines need) = ⊥
+IsSplitFault p b Gates = b.gates < sum_by most_gates p.circuit.gates
+IsSplitFault p b (Memory _) =
+    HasSplitList (p.circuit.lines + b.borrow) b.gates p.circuit.gates
 
 -- its lines and gates are within the numbers of the block
 abbrev pub IsLaidInBlocks : SettledView → ℕ → BudgetView → LaidView → Type 0
@@ -84,8 +86,8 @@ pub record IsShallowFor (s : SettledView) (b : BudgetView) (laid : LaidView) : T
 
 -- ---- plans of a lean graph
 
--- why no plan of a lean graph was laid: its row does not fit; memory is wanted only where the budget
--- has the lines of the inputs and outputs
+-- why no plan of a lean graph was laid: its row does not fit; memory is wanted only where the
+-- budget has the lines of the inputs and outputs
 abbrev pub IsLeanFault : SumGraphView → BudgetView → PlanFault → Type 0
 IsLeanFault l b (Lines need) =
     HasNoLineEach l b × (need ≡ wanted_lines (first_work l) b)
@@ -108,9 +110,10 @@ pub record IsRow (l : SumGraphView) (b : BudgetView) (laid : LaidView) : Type 0 
   pub gates : length laid.circuit.gates ≤ plain_weight l
 
 -- so many gates are at most what four toggles of each node and one of each output weigh, where the
--- row fits and the output lines may hold any bits; of plans on lines that begin at 0 nothing is said
+-- row fits and the output lines may hold any bits; of plans on lines that begin at 0 nothing is
+-- said
 abbrev pub HasFewGates : Start → SumGraphView → BudgetView → ℕ → Type 0
-HasFewGates Any l b gates = CoveringFits l b → gates ≤ covering_weight l
+HasFewGates Any l b gates = OneBlockFits l b → gates ≤ one_block_weight l
 HasFewGates Zero l b gates = ⊤
 
 -- so many gates, and one toggle of each output, are at most twice those of a plan, or there are
@@ -126,7 +129,7 @@ AreFewBeside Zero l laid gates = ⊤
 pub record IsMost (start : Start) (l : SumGraphView) (b : BudgetView) (most : Most)
     : Type 0 where
   pub lines : most.lines ≤ first_work l + length l.nodes + b.borrow
-  pub toffoli : CoveringFits l b → most.toffoli ≤ 2 * products_in l.nodes + products_in l.outputs
+  pub toffoli : OneBlockFits l b → most.toffoli ≤ 2 * products_in l.nodes + products_in l.outputs
   pub gates : HasFewGates start l b most.gates
 
 pub record IsWithin (most : Most) (laid : LaidView) : Type 0 where
@@ -139,5 +142,5 @@ pub record IsLaidLean (start : Start) (l : SumGraphView) (b : BudgetView) (laid 
     : Type 0 where
   pub laid_of : IsLaidOfLean start l b laid
   pub lines : laid.circuit.lines ≤ first_work l + length l.nodes + b.borrow
-  pub products : CoveringFits l b → toffoli laid ≤ 2 * products_in l.nodes + products_in l.outputs
+  pub products : OneBlockFits l b → toffoli laid ≤ 2 * products_in l.nodes + products_in l.outputs
   pub gates : HasFewGates start l b (length laid.circuit.gates)

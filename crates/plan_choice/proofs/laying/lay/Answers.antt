@@ -1,5 +1,5 @@
 use Rattle.std.proofs.Common.{◌≡◌, ℕ, ◌+◌, Bool, List, length, Err, ap, ◌∙◌, subst, arith}
-use Rattle.gate_split.specs.Split.{IsSplitList, PassesLimit, WantsIdle}
+use Rattle.gate_split.specs.Split.{HasSplitList, IsSplitList, PassesLimit, WantsIdle}
 use Rattle.mct_circuit.specs.Gates.{AreGatesOn, CircuitView, line_map}
 use Rattle.circuit_plans.proofs.BorrowedLemmas.{clean_circuits_borrow}
 use Rattle.gate_split.proofs.RoomyFlipLemmas.{roomy_flips}
@@ -40,6 +40,19 @@ returns-in-Err-Gates-clause-refused c =
     let over = many_gates p.circuit.lines more c.gates.result p.circuit.gates roomy_flips (omega arith) c.requires.roomy refused in
     let limit = c.gates.ensures.gates in
     omega arith
+
+pub returns-in-Err-Memory-clause-refused : goal.returns-in-Err-Memory-clause-refused
+returns-in-Err-Memory-clause-refused c =
+    let p = c.args.planned in
+    let b = c.args.budget.now in
+    let lines = ap (λ (n : CircuitView). n.lines) c.circuit.ensures.circuit in
+    let borrow = c.borrow.ensures.borrow in
+    let count = c.lines-2.ensures.lines in
+    let more : c.lines-2.result + c.borrow.result ≡ p.circuit.lines + b.borrow = omega arith in
+    subst (λ (n : ℕ). HasSplitList n b.gates p.circuit.gates) more
+    (subst (λ (n : ℕ). HasSplitList (c.lines-2.result + c.borrow.result) n p.circuit.gates) c.gates.ensures.gates
+    (subst (λ (n : CircuitView). HasSplitList (c.lines-2.result + c.borrow.result) c.gates.result n.gates) c.into_circuit.ensures
+    (c.in-Err-Memory.ensures.memory (ap Err c.in-Err-Memory.field-0-is))))
 
 pub unreachable-requires : goal.unreachable-requires
 unreachable-requires c =
