@@ -21,7 +21,8 @@ struct Schedule {
 
 /// The places of gates on so many lines in a better order, in which none goes before another one
 /// with which it does not commute: boundary by boundary, and layer by layer, at each time those
-/// gates whose lines are free, the longest way to the end first. A unit of work is a look at a gate.
+/// gates whose lines are free, the longest way to the end first. A unit of work is a look at a
+/// gate.
 pub fn best_order(work: &mut Work, steps: &[Step], lines: u32) -> Vec<u32> {
     let groups = Groups::of(work, steps, lines);
     let ranks = ranks(work, &groups, steps);

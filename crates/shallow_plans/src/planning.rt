@@ -15,8 +15,8 @@ const MOST_WORK: u64 = 20_000_000;
 // The most nodes of a graph for which more lines than are needed are tried.
 const FEW_NODES: u32 = 50_000;
 
-/// The moves of a plan in which the Toffoli gates stand in at most twice as many layers as the graph
-/// has levels. Each of its nodes has at most one product, its outputs have none. The lines of
+/// The moves of a plan in which the Toffoli gates stand in at most twice as many layers as the
+/// graph has levels. Each of its nodes has at most one product, its outputs have none. The lines of
 /// outputs may hold anything: what comes to them are the outputs alone.
 ///
 /// Of the plans that are tried it is the one of the fewest Toffoli gates, and then of the fewest
