@@ -1,0 +1,221 @@
+// Rows in two layers, with what changed them.
+use plan_tools::{Echelon, Reduced, Row, Table, Work};
+
+/// Where a row belongs. Rows of the state begin as zeros and end as outputs; those beneath are
+/// undone in the end, and so only rows beneath may be added to them.
+#[derive(Clone, Copy, PartialEq, Eq)]
+pub enum Layer {
+    State,
+    Beneath,
+}
+
+/// A step of a sweep, which goes back from the end.
+#[derive(Drop)]
+pub enum Step {
+    /// The line of one row is added to that of another.
+    Add {
+        from: Row,
+        to: Row,
+    },
+    /// A node is toggled onto the line of a row; each of its factors is a sum of rows.
+    Toggle {
+        node: u32,
+        onto: Row,
+        first: Vec<Row>,
+        second: Vec<Row>,
+    },
+    /// The row begins: its line holds nothing before that.
+    Begin(Row),
+    /// A row of a layer ends: its line holds nothing behind that.
+    End {
+        row: Row,
+        layer: Layer,
+    },
+    /// A row beneath is wanted no more behind that, but keeps its line.
+    Last(Row),
+}
+
+// What a row held before it changed; nothing where it was out.
+#[derive(Drop)]
+struct Change {
+    row: Row,
+    before: Vec<u32>,
+}
+
+/// Where a sweep stood.
+#[derive(Clone, Copy)]
+pub struct Mark {
+    steps: usize,
+    next: Row,
+}
+
+/// Rows of vectors with different heads, their greatest symbols. A row without a vector is out.
+#[derive(Drop)]
+pub struct StateRows {
+    pub(crate) echelon: Echelon,
+    /// Of each row its layer.
+    layers: Table<Layer>,
+    /// The row behind those that were made.
+    next: Row,
+    /// The changes of rows since the last call of `mark`.
+    changes: Option<Vec<Change>>,
+    pub steps: Vec<Step>,
+}
+
+impl StateRows {
+    /// No rows, over so many symbols.
+    pub fn new(work: &mut Work, symbols: usize) -> StateRows {
+        StateRows {
+            echelon: Echelon::new(work, symbols),
+            layers: Table::of(Vec::new(work.alloc), Layer::State),
+            next: 0,
+            changes: None,
+            steps: Vec::new(work.alloc),
+        }
+    }
+
+    /// How many rows were made.
+    pub fn made(&self) -> u32 {
+        self.next
+    }
+
+    /// How many symbols there are.
+    pub fn symbols(&self) -> usize {
+        self.echelon.symbols()
+    }
+
+    /// The row whose head is this symbol, if there is one.
+    pub fn with_head(&self, symbol: u32) -> Option<Row> {
+        self.echelon.with_head(symbol)
+    }
+
+    /// The vector of a row; empty where it is out.
+    pub fn vector(&self, row: Row) -> &[u32] {
+        self.echelon.vector(row)
+    }
+
+    /// The layer of a row.
+    pub fn layer(&self, row: Row) -> Layer {
+        self.layers.get(row)
+    }
+
+    /// The row of a layer whose head is this symbol, if there is one.
+    pub fn in_layer(&self, symbol: u32, layer: Layer) -> Option<Row> {
+        let row = self.with_head(symbol)?;
+        if self.layer(row) == layer {
+            Some(row)
+        } else {
+            None
+        }
+    }
+
+    /// Whether rows of a layer may read this row.
+    pub(crate) fn is_read_by(&self, row: Row, layer: Layer) -> bool {
+        layer == Layer::State || self.layer(row) == Layer::Beneath
+    }
+
+    /// Adds rows that a layer may read to a vector until its greatest symbol is no such row's head.
+    pub fn reduced(&self, work: &mut Work, vector: &[u32], layer: Layer) -> Reduced {
+        let mut left = work.copy(vector);
+        let mut rows = Vec::new(work.alloc);
+        for _ in 0..self.symbols() {
+            match self.echelon.rival(&left) {
+                Some(row) if self.is_read_by(row, layer) => {
+                    work.push(&mut rows, row);
+                    left = self.echelon.plus(work, &left, row);
+                }
+                _ => break,
+            }
+        }
+        Reduced { left, rows }
+    }
+
+    /// Whether a vector is in the span of the rows that a layer may read.
+    pub fn spans(&self, work: &mut Work, vector: &[u32], layer: Layer) -> bool {
+        self.reduced(work, vector, layer).left.is_empty()
+    }
+
+    /// The rows that sum to a vector. The work gives up where it is not in their span.
+    pub fn rows_of(&self, work: &mut Work, vector: &[u32], layer: Layer) -> Vec<Row> {
+        let Reduced { left, rows } = self.reduced(work, vector, layer);
+        if !left.is_empty() {
+            work.give_up();
+        }
+        rows
+    }
+
+    /// A new row of a layer, which is out.
+    pub fn fresh(&mut self, work: &mut Work, layer: Layer) -> Row {
+        let row = self.next;
+        if row as usize >= self.echelon.made() {
+            let _ = self.echelon.fresh(work);
+            self.layers.push(work, layer);
+        }
+        self.layers.set(row, layer);
+        self.next = row.saturating_add(1);
+        row
+    }
+
+    /// Takes a row out, and gives its vector.
+    pub fn take(&mut self, work: &mut Work, row: Row) -> Vec<u32> {
+        let vector = self.echelon.take(work, row);
+        self.note_change(work, row, &vector);
+        vector
+    }
+
+    /// Puts a vector into a row that is out. Its head is that of no other row.
+    pub fn put(&mut self, work: &mut Work, row: Row, vector: Vec<u32>) {
+        self.note_change(work, row, &[]);
+        self.echelon.put(work, row, vector);
+    }
+
+    // Notes what a row holds before it changes, where changes are noted.
+    fn note_change(&mut self, work: &mut Work, row: Row, vector: &[u32]) {
+        if let Some(changes) = &mut self.changes {
+            let before = work.copy(vector);
+            work.push(changes, Change { row, before });
+        }
+    }
+
+    /// From here on changes are noted, so that `undo` takes them back.
+    pub fn mark(&mut self, work: &Work) -> Mark {
+        self.changes = Some(Vec::new(work.alloc));
+        Mark {
+            steps: self.steps.len(),
+            next: self.next,
+        }
+    }
+
+    /// The changes stay, and are noted no more.
+    pub fn keep(&mut self) {
+        self.changes = None;
+    }
+
+    /// Takes what was done since `mark` back. Changes are noted further.
+    pub fn undo(&mut self, work: &mut Work, mark: Mark) {
+        let Some(changes) = self.changes.replace(Vec::new(work.alloc)) else {
+            return;
+        };
+        for Change { row, before } in changes.into_iter().rev() {
+            if before.is_empty() {
+                let _ = self.echelon.take(work, row);
+            } else {
+                self.echelon.put(work, row, before);
+            }
+        }
+        self.steps.truncate(mark.steps);
+        self.next = mark.next;
+    }
+
+    /// Appends a step.
+    pub fn push(&mut self, work: &mut Work, step: Step) {
+        work.push(&mut self.steps, step);
+    }
+
+    /// Appends the additions of rows to one.
+    pub fn add_all(&mut self, work: &mut Work, rows: &[Row], to: Row) {
+        for from in rows {
+            work.push(&mut self.steps, Step::Add { from: *from, to });
+        }
+    }
+}
