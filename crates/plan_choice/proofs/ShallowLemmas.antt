@@ -6,6 +6,7 @@ use Rattle.circuit_plans.specs.declared.choice.Plan.TheVariants.{Lean, Shallow}
 use Rattle.circuit_plans.specs.declared.plan.PlanFault.{PlanFault}
 use Rattle.circuit_plans.specs.declared.plan.PlanFault.TheVariants.{Lines, Gates, Memory}
 use Rattle.circuit_plans.specs.declared.roles.Roles.{Roles}
+use Rattle.circuit_plans.specs.declared.roles.Start.{Start}
 use Rattle.circuit_plans.specs.declared.roles.Start.TheVariants.{Any}
 use Rattle.circuit_plans.specs.Plans.{AddsOutputs, BudgetView, IsNarrowPlan, LaidView, PlannedView, roles_of_plan}
 use Rattle.claim_check.specs.Settled.{SettledView, settled_outputs}
@@ -29,16 +30,16 @@ single_outputs s l single lean is = record {
 }
 
 -- a plan of a graph of sums that has the outputs of a settled graph is one of that
-pub settled_plan : (s : SettledView) (l : SumGraphView) (b : BudgetView) (p : PlannedView) → HasOutputsOf s l
-    → IsNarrowPlan Any l.inputs (length l.outputs) (sum_outputs l) b p → IsNarrowPlan Any s.inputs (length s.outputs) (settled_outputs s) b p
-settled_plan s l b p has plan = record {
+pub settled_plan : (start : Start) (s : SettledView) (l : SumGraphView) (b : BudgetView) (p : PlannedView) → HasOutputsOf s l
+    → IsNarrowPlan start l.inputs (length l.outputs) (sum_outputs l) b p → IsNarrowPlan start s.inputs (length s.outputs) (settled_outputs s) b p
+settled_plan start s l b p has plan = record {
   ports = record {
     inputs = plan.ports.inputs ∙ has.inputs;
     outputs = plan.ports.outputs ∙ has.outputs;
     lines = plan.ports.lines ∙ ap (λ (n : ℕ). n + p.work) (ap (λ (n : ℕ). n + length l.outputs) has.inputs
         ∙ ap (λ (n : ℕ). s.inputs + n) has.outputs);
   };
-  clean = same_outputs Any (roles_of_plan p) p.circuit.gates (sum_outputs l) (settled_outputs s) has.values plan.clean;
+  clean = same_outputs start (roles_of_plan p) p.circuit.gates (sum_outputs l) (settled_outputs s) has.values plan.clean;
   within = plan.within;
   narrow = plan.narrow;
 }
@@ -122,9 +123,9 @@ found_err s b found fault r is same = subst (λ (x : Result LaidView PlanFault).
     of_either (Some laid) = tt
 
 -- the plan of a graph of sums that was found, as one of the settled graph
-pub settled_found : {E : Type 0} (s : SettledView) (l : SumGraphView) (b : BudgetView) (r : Result (Option PlannedView) E) → HasOutputsOf s l
-    → IfOk r (λ found. IfSome found (IsNarrowPlan Any l.inputs (length l.outputs) (sum_outputs l) b))
-    → IfOk r (λ found. IfSome found (IsNarrowPlan Any s.inputs (length s.outputs) (settled_outputs s) b))
-settled_found s l b (Ok None) has is = tt
-settled_found s l b (Ok (Some p)) has is = settled_plan s l b p has is
-settled_found s l b (Err e) has is = tt
+pub settled_found : {E : Type 0} (start : Start) (s : SettledView) (l : SumGraphView) (b : BudgetView) (r : Result (Option PlannedView) E) → HasOutputsOf s l
+    → IfOk r (λ found. IfSome found (IsNarrowPlan start l.inputs (length l.outputs) (sum_outputs l) b))
+    → IfOk r (λ found. IfSome found (IsNarrowPlan start s.inputs (length s.outputs) (settled_outputs s) b))
+settled_found start s l b (Ok None) has is = tt
+settled_found start s l b (Ok (Some p)) has is = settled_plan start s l b p has is
+settled_found start s l b (Err e) has is = tt

@@ -90,7 +90,7 @@ fn lean_plan(alloc: Global, graph: &Settled, budget: &Budget, start: Start) -> T
     ensures refused_too { IfErr result (IsChoiceFault Compact graph.now budget.now) }
 {
     let lean = SumGraph::lean(alloc, graph, MOST_FACTOR_BITS)?;
-    lay_lean(alloc, &lean, budget, start)
+    lay_lean(alloc, graph, &lean, budget, start)
 }
 
 // The best plan of the lean graph for any bits on the output lines, or a shallower one.

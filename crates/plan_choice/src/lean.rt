@@ -4,13 +4,15 @@ ghost use Rattle.circuit_plans.specs.declared.plan.TheConstants.{MOST_GATES};
 ghost use Rattle.circuit_plans.specs.Plans.{HasPortLines, IsNarrowPlan};
 ghost use Rattle.plan_choice.specs.inside.Tried.{AreFewBeside, IsLaidLean, IsLeanFault, IsMost};
 ghost use Rattle.plan_choice.specs.inside.Tried.{IsRow, IsWithin};
-ghost use Rattle.sum_graph.specs.Graphs.{first_work, sum_outputs};
+ghost use Rattle.sum_graph.specs.Graphs.{IsLeanOf, first_work, sum_outputs};
 ghost use Rattle.sum_toggles.specs.Toggles.{toggle_weight};
 
 use crate::laying::{Tried, lay_narrow};
 use crate::scripts::follow_moves;
+use crate::singles::{Planner, plan_single};
 use bit_sums::Sum;
 use circuit_plans::{Budget, Laid, PlanFault, Planned, Size, Start};
+use claim_check::Settled;
 use plan_tools::Limits;
 use std::alloc::Global;
 use sum_graph::SumGraph;
@@ -18,8 +20,15 @@ use sum_toggles::weight_within;
 
 // The best plan of a lean graph: that of its row, or one that a planner finds, where the output
 // lines may hold what `start` says. To add a planner is a line here.
-pub fn lay_lean(alloc: Global, lean: &SumGraph, budget: &Budget, start: Start) -> Tried
-    requires { HasPortLines (first_work lean.now) budget.now }
+pub fn lay_lean(
+    alloc: Global,
+    graph: &Settled,
+    lean: &SumGraph,
+    budget: &Budget,
+    start: Start,
+) -> Tried
+    requires ports { HasPortLines (first_work lean.now) budget.now }
+    requires lean { IsLeanOf graph.now lean.now }
     ensures ok { IfOk result (IsLaidLean start lean.now budget.now) }
     ensures refused { IfErr result (IsLeanFault lean.now budget.now) }
 {
@@ -34,7 +43,9 @@ pub fn lay_lean(alloc: Global, lean: &SumGraph, budget: &Budget, start: Start) -
     }
     let spans = span_plans::plan(alloc, lean, limits);
     let found = follow_moves(alloc, lean, budget, start, spans)?;
-    or_better(alloc, lean, budget, start, most, best, found)
+    let best = or_better(alloc, lean, budget, start, most, best, found);
+    let states = plan_single(alloc, graph, budget, start, Planner::State)?;
+    or_better(alloc, lean, budget, start, most, best, states)
 }
 
 // The budget as planners take it.

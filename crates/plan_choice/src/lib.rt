@@ -7,5 +7,6 @@ mod lean;
 mod scripts;
 mod search;
 mod shallow;
+mod singles;
 
 pub use choosing::choose;

@@ -1,28 +1,20 @@
 // Plans of small Toffoli depth.
-ghost use Rattle.std.specs.Prelude.{◌≡◌, ◌⊎◌, length, IfErr, IfOk, IfSome, Some};
+ghost use Rattle.std.specs.Prelude.{◌≡◌, ◌⊎◌, IfErr, IfOk, IfSome, Some};
 ghost use Rattle.circuit_plans.specs.declared.choice.Plan.TheVariants.{Shallow};
-ghost use Rattle.circuit_plans.specs.declared.roles.Start.TheVariants.{Any};
-ghost use Rattle.circuit_plans.specs.Plans.{HasPortLines, IsNarrowPlan};
-ghost use Rattle.claim_check.specs.Settled.{settled_outputs};
+ghost use Rattle.circuit_plans.specs.Plans.{HasPortLines};
 ghost use Rattle.eager_cleanup.specs.Eager.{ports_of};
 ghost use Rattle.flip_orders.specs.Orders.{IsReorderedPlan};
 ghost use Rattle.plan_choice.specs.Choices.{IsChoiceFault};
-ghost use Rattle.plan_choice.specs.inside.Tried.{HasOutputsOf, IsShallowFor};
+ghost use Rattle.plan_choice.specs.inside.Tried.{IsShallowFor};
 
 use crate::laying::{Tried, lay_narrow};
-use crate::lean::limits_of;
-use crate::scripts::follow_moves;
-use circuit_plans::{Budget, Laid, PlanFault, Planned, Start};
+use crate::singles::{Planner, plan_single};
+use circuit_plans::{Budget, Laid, PlanFault, Start};
 use claim_check::Settled;
 use flip_orders::{Goal, with_best_order};
 use mct_circuit::Circuit;
 use revc_base::Memory;
-use single_products::single_products;
 use std::alloc::Global;
-use sum_graph::SumGraph;
-
-// The most bits of a sum that is no node of the graph over which shallow plans are looked for.
-const MOST_SHORT_BITS: usize = 2;
 
 // The plan that was tried, with its gates in the best order, or one of small Toffoli depth that a
 // planner finds, where that is better by depth or no plan was laid.
@@ -46,38 +38,12 @@ fn lay_single(alloc: Global, graph: &Settled, budget: &Budget) -> Result<Option<
     ensures ok { IfOk result (λ found. IfSome found (IsShallowFor graph.now budget.now)) }
     ensures memory { IfErr result (λ fault. fault ≡ PlanFault.Memory _) }
 {
-    let Some(planned) = plan_single(alloc, graph, budget)? else {
+    let planner = Planner::Layers;
+    let Some(planned) = plan_single(alloc, graph, budget, Start::Any, planner)? else {
         return Ok(None);
     };
     let laid = lay_narrow(alloc, planned, budget)?;
     Ok(Some(with_best_order(alloc, laid, Goal::Toffoli)?))
-}
-
-// The plan that is found over the graph of single products, if there is one.
-fn plan_single(alloc: Global, graph: &Settled, budget: &Budget) -> Result<Option<Planned>, Memory>
-    ensures { IfOk result (λ found. IfSome found (IsNarrowPlan Any graph.now.inputs
-        (length graph.now.outputs) (settled_outputs graph.now) budget.now)) }
-{
-    let lean = SumGraph::lean(alloc, graph, MOST_SHORT_BITS)?;
-    match single_products(alloc, &lean)? {
-        Some(single) => plan_over(alloc, graph, &single, budget),
-        None => Ok(None),
-    }
-}
-
-// The plan that is found over a graph of sums, as one of the settled graph.
-fn plan_over(
-    alloc: Global,
-    graph: &Settled,
-    sums: &SumGraph,
-    budget: &Budget,
-) -> Result<Option<Planned>, Memory>
-    requires { HasOutputsOf graph.now sums.now }
-    ensures { IfOk result (λ found. IfSome found (IsNarrowPlan Any graph.now.inputs
-        (length graph.now.outputs) (settled_outputs graph.now) budget.now)) }
-{
-    let moves = shallow_plans::plan(alloc, sums, limits_of(budget));
-    follow_moves(alloc, sums, budget, Start::Any, moves)
 }
 
 // ---- the better of two plans
