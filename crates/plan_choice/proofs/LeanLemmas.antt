@@ -27,7 +27,7 @@ use Rattle.plan_choice.specs.declared.lean.Most.{Most}
 use Rattle.plan_choice.specs.Choices.{IsChoiceFault, IsLaidFor, IsLean, IsOfLean, LeanFits, LinesAreFew}
 use Rattle.plan_choice.specs.Lean.{OneBlockFits, HasFewToffoliGates, toffoli}
 use Rattle.plan_choice.specs.inside.Tried as tried
-use Rattle.plan_choice.specs.inside.Tried.{IsLaidAsIs, IsLaidLean, IsLaidOfLean, IsLeanFault, IsMost, IsRow}
+use Rattle.plan_choice.specs.inside.Tried.{IsLaidAsIs, IsLaidLean, IsLeanFault, IsMost, IsRow}
 use Rattle.plan_choice.proofs.SplitLemmas.{same_outputs}
 
 -- ---- the row

@@ -11,7 +11,6 @@ use Rattle.circuit_plans.specs.Plans.{AddsOutputs, BudgetView, HasPortLines, IsN
 use Rattle.claim_check.specs.Settled.{SettledView, settled_outputs}
 use Rattle.gate_split.specs.Costs.{most_gates}
 use Rattle.gate_split.specs.Split.{HasSplitList, IsSplitList}
-use Rattle.mct_circuit.specs.Gates.{GateView}
 use Rattle.sum_graph.specs.Graphs.{SumGraphView, first_work, products_in, sum_outputs}
 use Rattle.plan_choice.specs.declared.lean.Most.{Most}
 use Rattle.plan_choice.specs.Blocks.{IsPebblingFault, extent_of}
