@@ -117,3 +117,12 @@ tidied_written aim from text split made s is =
       writable = is.writable;
       same = subst (λ (b : Bool). DoesTheSame source b gates) added same;
     })
+
+-- tidied gates in another order are made for a smaller depth
+pub made_in_order : (split tidied made : ConvertedView) → IsRemade (IsTidied (line_count split.circuit)) split tidied
+    → IsRemade AreReordered tidied made → IsRemade (AreMadeFor Depth (line_count split.circuit)) split made
+made_in_order split tidied made first second = record {
+  gates = record { between = tidied.circuit.gates; tidied = first.gates; order = second.gates };
+  are = second.are ∙ ap (λ (t : ConvertedView). record t { circuit = record t.circuit { gates = made.circuit.gates } }) first.are;
+  writable = second.writable;
+}
