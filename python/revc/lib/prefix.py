@@ -12,11 +12,11 @@ Depth = Union[int, str]
 
 
 def budget(depth: Depth, n: int, title: str) -> int:
-    """The most ANDs one behind the other: for "log" it is 2 log2 n + 2."""
+    """The most ANDs one behind the other: for "log" it is log2 n + 1, rounded up."""
     if depth == "log":
-        return (n * n).bit_length() + 1
+        return (n - 1).bit_length() + 1
     if not isinstance(depth, int) or isinstance(depth, bool) or depth < 1:
-        raise RevcError(f'{title}: a depth is "log", which is 2 log2 n + 2, or a number from 1 up, and not {depth!r}')
+        raise RevcError(f'{title}: a depth is "log", which is log2 n + 1, or a number from 1 up, and not {depth!r}')
     return depth
 
 
@@ -34,7 +34,8 @@ def carries(x: List[Bits], y: List[Bits], depth: int, is_all: bool, title: str) 
 def add(x: Operand, y: Operand, carry: bool = False, depth: Depth = "log") -> Bits:
     """x + y at their width, with `carry` one bit wider, by the fewest ANDs that are known at a depth.
 
-    `depth` is how many ANDs are one behind the other at most: a number, or "log" for 2 log2 n + 2.
+    `depth` is how many ANDs are one behind the other at most: a number, or "log" for log2 n + 1. The Toffoli depth of a
+    circuit is at most twice that under the plan `shallow`, where there are lines enough.
     """
     kind, y = both(x, y, "+")
     x, y = unsigned(kind, y, carry)
