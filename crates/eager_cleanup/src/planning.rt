@@ -18,7 +18,7 @@ use claim_check::Settled;
 use exclusive_sums::Poly;
 use held_nodes::{Forward, Moved};
 use std::alloc::Global;
-use sum_graph::{SumGraph, plain_graphs_are_alike};
+use sum_graph::SumGraph;
 
 /// The eager plan of a settled graph, whose plain graph of sums is given. Its forward part takes
 /// the nodes in order. Each is computed onto the least free work line; then each node that was used
@@ -32,6 +32,7 @@ use sum_graph::{SumGraph, plain_graphs_are_alike};
 /// `Lines` and `Gates` only where the budget has fewer of them than the eager number of the graph.
 /// `need` is the number of inputs, outputs and borrowed lines where that passes the budget, and one
 /// line more than the budget otherwise.
+#[tactic(auto, using(sum_graph::proofs::PlainLemmas::plain_graphs_are_alike))]
 pub fn plan(
     alloc: Global,
     graph: &Settled,
@@ -48,8 +49,6 @@ pub fn plan(
     ensures few { IfOk result (IsWithinEager graph.now) }
     ensures refused { IfErr result (IsEagerFault graph.now budget.now) }
 {
-    // This call says that the plain graph has the values of the settled one.
-    plain_graphs_are_alike();
     let _ = graph.inputs();
     let forward = Forward::new(alloc, plain, budget)?;
     let forward = swept(alloc, forward, graph)?;

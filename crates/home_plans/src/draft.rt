@@ -1,7 +1,7 @@
 // Plans in the making, before they have moves: which nodes stand on which lines.
 use crate::nodes::Nodes;
 use crate::weight::Weight;
-use plan_tools::{FreeLines, Limits, NOWHERE, Stop, Table, Work};
+use plan_tools::{FreeLines, Limits, NOWHERE, Size, Stop, Table, Work};
 use std::alloc::Global;
 
 /// A toggle of a node onto a line.
@@ -9,16 +9,6 @@ use std::alloc::Global;
 pub struct Toggle {
     pub node: u32,
     pub line: u32,
-}
-
-/// What a plan comes to. The better of two plans is the one that comes to less, at the first of
-/// these numbers where they differ.
-#[derive(Clone, Copy, PartialEq, Eq, PartialOrd, Ord)]
-pub struct Size {
-    pub toffoli: u64,
-    /// Lines times gates.
-    pub area: u64,
-    pub lines: u32,
 }
 
 // The most looks at nodes that are taken for a draft.
@@ -76,12 +66,8 @@ impl<'n> Draft<'n> {
     ///
     /// Why it is none within its limits.
     pub fn size(&self) -> Result<Size, Stop> {
-        let lines = self.lines();
-        self.work.finish(Size {
-            toffoli: self.weight.toffoli,
-            area: self.weight.gates.saturating_mul(u64::from(lines)),
-            lines,
-        })
+        let Weight { toffoli, gates } = self.weight;
+        self.work.finish(Size::new(toffoli, self.lines(), gates))
     }
 
     /// Whether no work line is free.

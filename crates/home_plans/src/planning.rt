@@ -1,10 +1,9 @@
 // The best of the plans with homes.
-use crate::draft::Size;
 use crate::nodes::Nodes;
 use crate::orders::Order;
 use crate::script::moves_of;
 use line_moves::Moves;
-use plan_tools::{Limits, Stop, Work};
+use plan_tools::{Limits, Size, Stop, Work};
 use std::alloc::Global;
 use sum_graph::SumGraph;
 

@@ -6,6 +6,7 @@
 mod echelon;
 mod free_lines;
 mod limits;
+mod size;
 mod stop;
 mod sums;
 mod table;
@@ -14,6 +15,7 @@ mod work;
 pub use echelon::{Echelon, Reduced, Row};
 pub use free_lines::FreeLines;
 pub use limits::{Limits, NOWHERE};
+pub use size::Size;
 pub use stop::Stop;
 pub use table::{Table, list_at, number, put};
 pub use work::Work;

@@ -13,45 +13,14 @@ use Rattle.dependency_graph.specs.declared.node.Base.{Base}
 use Rattle.dependency_graph.specs.declared.node.Base.TheVariants as bases
 use Rattle.bit_sums.specs.Growing.{FactorView, IsFinished, IsSumOf, sum_of_factor}
 use Rattle.bit_sums.specs.Sums.{ProductView, SumView, IsSumOver, sum_value}
-use Rattle.sum_graph.specs.Graphs.{AreKnownSums, HasFewBits, IsKnownSum, is_known, products_in}
-use Rattle.sum_graph.specs.inside.Placing.{IsNodeAt}
-use Rattle.sum_graph.specs.inside.Walks.{bit_sum}
-use Rattle.sum_graph.proofs.PlaceLemmas.{IsGrown, same_value, still_known}
-use Rattle.sum_graph.proofs.SumNodeLemmas.{known_further, known_more, sum_same, value_of_sum}
+use Rattle.sum_graph.specs.Graphs.{AreKnownSums, HasFewBits, IsKnownSum, IsNodeAt, bit_sum, is_known}
+use Rattle.sum_graph.proofs.PlaceLemmas.{IsGrown, all_grown, few_grown, grown_from, known_grown, longer, products_grown, same_value, still_known}
+use Rattle.sum_graph.proofs.SumNodeLemmas.{base_further, sum_same, value_of_sum}
+use Rattle.sum_graph.proofs.WalkLemmas.{take_next}
 use Rattle.single_products.specs.Singles.{HasOneProduct}
 use Rattle.single_products.specs.inside.Parting.{IsPart, IsRebuiltBut, IsRebuiltTo}
 use Rattle.single_products.specs.inside.Renumbering.{IsRebuilt, IsRenumbered, at_places, bit_on, product_sum, renumbered, with_first}
-use Rattle.single_products.proofs.RenumberingLemmas.{finished_renumbered, joined, over_left, over_right, sum_weaker, take_next, value_joined}
-
--- ---- nodes that grew
-
-abbrev grows : {A : Type 0} → A → List A → List A → Type 0
-grows x old new = (new ≡ old) ⊎ (new ≡ old ++ x ∷ [])
-
-pub grown_from : (sum : SumView) (old new : List SumView) → grows sum old new → IsGrown old new
-grown_from sum old new (inl same) = record { more = []; is = same ∙ sym (append-nil old) }
-grown_from sum old new (inr more) = record { more = sum ∷ []; is = more }
-
-pub longer : (old new : List SumView) → IsGrown old new → length old ≤ length new
-longer old new g = let e : length new ≡ length old + length g.more = ap length g.is ∙ length-append old g.more in omega (arith, e)
-
-pub few_grown : (sum : SumView) (old new : List SumView) → grows sum old new → length new ≤ length old + 1
-few_grown sum old new (inl same) = rw same (omega arith)
-few_grown sum old new (inr more) = rw more (omega (arith, length-append old (sum ∷ [])))
-
-pub products_grown : (sum : SumView) (old new : List SumView) → grows sum old new → products_in new ≤ products_in old + length sum.products
-products_grown sum old new (inl same) = rw same (omega arith)
-products_grown sum old new (inr more) =
-    rw more (omega (arith, sum_by-append (λ (s : SumView). length s.products) old (sum ∷ []), sum_by-cons (λ (s : SumView). length s.products) sum []))
-
-pub known_grown : (n : ℕ) (sum : SumView) (old new : List SumView) → grows sum old new → AreKnownSums n 0 old → IsKnownSum n (length old) sum
-    → AreKnownSums n 0 new
-known_grown n sum old new (inl same) nodes known = subst (AreKnownSums n 0) (sym same) nodes
-known_grown n sum old new (inr more) nodes known = subst (AreKnownSums n 0) (sym more) (known_more n old sum nodes known)
-
-pub all_grown : (P : SumView → Type 0) (sum : SumView) (old new : List SumView) → grows sum old new → AllByRecursion P old → P sum → AllByRecursion P new
-all_grown P sum old new (inl same) all is = subst (AllByRecursion P) (sym same) all
-all_grown P sum old new (inr more) all is = subst (AllByRecursion P) (sym more) (AllByRecursion-push P old sum all is)
+use Rattle.single_products.proofs.RenumberingLemmas.{finished_renumbered, joined, over_left, over_right, sum_weaker, value_joined}
 
 -- ---- bases among nodes that grew
 
@@ -61,9 +30,6 @@ bit_alone v = xor_none (xor (xor v false) false) ∙ xor_nothing (xor v false) �
 -- a base as a sum
 known_bit : (n k : ℕ) (b : Base) → is_known n k b ≡ true → IsKnownSum n k (bit_sum b)
 known_bit n k b known = record { bits = (known, tt); products = tt }
-
-pub base_further : (n k j : ℕ) → k ≤ j → (b : Base) → is_known n k b ≡ true → is_known n j b ≡ true
-base_further n k j le b known = (known_further n k j le (bit_sum b) (known_bit n k b known)).bits.0
 
 pub bit_still : (n : ℕ) (old new : List SumView) (input : List Bool) (b : Base) → IsGrown old new → is_known n (length old) b ≡ true
     → bit_on new input b ≡ bit_on old input b
@@ -154,15 +120,15 @@ part_node places p old new sum whole place r f at =
     let g = grown_from whole old new at.grown in
     let low : place < length new = slice_get_within new place whole at.found in
     let nodes = λ (n : ℕ) (known : AreKnownSums n 0 old) (over : IsSumOver (at_places places (is_known n (length old))) (product_sum p)).
-    known_grown n whole old new at.grown known (made.over (is_known n (length old)) over) in
+    known_grown n old new whole known (made.over (is_known n (length old)) over) at.grown in
     record {
       rebuilt = record {
         more = g.more;
         grown = g.is;
-        few = few_grown whole old new at.grown;
-        products = omega (arith, products_grown whole old new at.grown, made.few);
-        single = λ all. all_grown HasOneProduct whole old new at.grown all made.few;
-        few_bits = λ all. all_grown HasFewBits whole old new at.grown all f.few_bits;
+        few = few_grown old new whole at.grown;
+        products = omega (arith, products_grown old new whole at.grown, made.few);
+        single = λ all. all_grown HasOneProduct old new whole all made.few at.grown;
+        few_bits = λ all. all_grown HasFewBits old new whole all f.few_bits at.grown;
         known = nodes;
         over = λ n known over. record { bits = (lt-ltb place (length new) low, tt); products = tt };
         values = λ n known over input.

@@ -2,8 +2,7 @@
 use Rattle.std.proofs.Common.{◌≡◌, ℕ, ◌+◌, ◌≤◌, Bool, true, false, ◌&&◌, List, [], ◌∷◌, ◌++◌, length, take, slice_get, Some}
 use Rattle.std.proofs.Common.{refl, sym, ap, ap₂, ◌∙◌, subst, arith}
 use Rattle.std.specs.Bool.{xor}
-use Rattle.std.proofs.lemmas.List.{length-append, take_all, take_more}
-use Rattle.std.proofs.lemmas.Option.{get_or_from_slice_get, slice_get_within}
+use Rattle.std.proofs.lemmas.List.{length-append, take_all}
 use Rattle.list_facts.proofs.AllLemmas.{AllByRecursion-left, AllByRecursion-right, AllByRecursion-weaker}
 use Rattle.list_facts.proofs.BitLemmas.{xor_none, xor_nothing}
 use Rattle.list_facts.proofs.TableLemmas.{of_four_bits}
@@ -13,14 +12,11 @@ use Rattle.bit_sums.specs.Bits.{apart}
 use Rattle.bit_sums.specs.Growing.{FactorView, IsFinished, IsSumOf, IsTimes}
 use Rattle.bit_sums.specs.Sums.{ProductView, SumView, AreAll, IsProductOver, IsSumOver, product_value, sum_value, xor_by}
 use Rattle.bit_sums.proofs.SetLemmas.{all-apart, length-apart, rising-apart, value-append, value-apart}
-use Rattle.sum_graph.specs.Graphs.{IsKnownSum, is_known}
-use Rattle.sum_graph.specs.inside.Walks.{bit_sum}
+use Rattle.sum_graph.specs.Graphs.{IsKnownSum, bit_sum, is_known}
+use Rattle.sum_graph.proofs.WalkLemmas.{take_next}
 use Rattle.single_products.specs.inside.Renumbering.{IsRenumbered, IsRenumberedFactor, IsRenumberedSet, at_places, has_place, product_sum, renumbered, with_first}
 
 -- ---- sets of bits
-
-pub take_next : {A : Type 0} (xs : List A) (k : ℕ) (x : A) → slice_get xs k ≡ Some x → take (k + 1) xs ≡ take k xs ++ x ∷ []
-take_next xs k x e = take_more xs k x (slice_get_within xs k x e) ∙ ap (λ y. take k xs ++ y ∷ []) (get_or_from_slice_get xs k x x e)
 
 pub set_begun : (places : List ℕ) → IsRenumberedSet places [] []
 set_begun places = record { rises = tt; values = λ bit. refl; over = λ test all. tt; few = omega arith }

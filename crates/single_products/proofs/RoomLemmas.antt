@@ -9,7 +9,7 @@ use Rattle.bit_sums.specs.Sums.{SumView}
 use Rattle.sum_graph.specs.Graphs.{SumGraphView, products_in}
 use Rattle.single_products.specs.Singles.{most_nodes}
 use Rattle.single_products.specs.inside.Parting.{IsLeft}
-use Rattle.single_products.proofs.RenumberingLemmas.{take_next}
+use Rattle.sum_graph.proofs.WalkLemmas.{take_next}
 
 abbrev products_of : SumView → ℕ
 products_of s = length s.products

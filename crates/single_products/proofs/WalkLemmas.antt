@@ -13,13 +13,14 @@ use Rattle.dependency_graph.specs.declared.node.Base.TheVariants as bases
 use Rattle.bit_sums.specs.Sums.{SumView, IsSumOver, sum_value}
 use Rattle.revs_tape.specs.declared.limits.TheConstants.{MOST_WRITES}
 use Rattle.sum_graph.specs.Graphs.{HasFewBits, IsKnownSum, IsSumGraph, SumGraphView, is_known, products_in, sum_on}
-use Rattle.sum_graph.proofs.PlaceLemmas.{IsGrown, same_value, still_known}
+use Rattle.sum_graph.proofs.PlaceLemmas.{IsGrown, all_grown, few_grown, grown_from, known_grown, longer, products_grown, same_value, still_known}
 use Rattle.sum_graph.proofs.SumNodeLemmas.{sum_same, value_of_sum}
+use Rattle.sum_graph.proofs.WalkLemmas.{take_next}
 use Rattle.single_products.specs.Singles.{HasNoProduct, HasOneProduct, IsSingleOf, most_nodes}
 use Rattle.single_products.specs.inside.Parting.{AreNodesParted, AreOutputsParted, AreStanding, IsNodeRebuilt, IsOutputRebuilt, StandsFor}
 use Rattle.single_products.specs.inside.Renumbering.{IsRebuilt, at_places, bit_on, has_place, renumbered}
-use Rattle.single_products.proofs.PartLemmas.{all_grown, bit_still, few_grown, grown_from, known_grown, longer, products_grown}
-use Rattle.single_products.proofs.RenumberingLemmas.{known_placed, sum_weaker, take_next}
+use Rattle.single_products.proofs.PartLemmas.{bit_still}
+use Rattle.single_products.proofs.RenumberingLemmas.{known_placed, sum_weaker}
 use Rattle.single_products.proofs.RoomLemmas.{products_all, products_next, products_within}
 
 -- ---- bases at their places
@@ -110,7 +111,7 @@ node_parted g k places old new s place graph are e is =
     let g2 = grown_from is.whole is.between new is.at.grown in
     let whole_known : IsKnownSum n (length is.between) is.whole =
     is.finished.over (is_known n (length is.between)) (is.rebuilt.over n are.standing.known over) in
-    let nodes = known_grown n is.whole is.between new is.at.grown mid.known whole_known in
+    let nodes = known_grown n is.between new is.whole mid.known whole_known is.at.grown in
     let one : length is.whole.products ≤ 1 = omega (arith, is.finished.few, is.one) in
     let stands : StandsFor g new k place = record {
       within = slice_get_within new place is.whole is.at.found;
@@ -129,12 +130,12 @@ node_parted g k places old new s place graph are e is =
         known = nodes;
         each = AllFrom-push (StandsFor g new) 0 places place (all_stand g is.between new 0 places g2 mid.each)
             (subst (λ (j : ℕ). StandsFor g new j place) (sym at) stands);
-        single = all_grown HasOneProduct is.whole is.between new is.at.grown mid.single one;
-        few_bits = all_grown HasFewBits is.whole is.between new is.at.grown mid.few_bits is.finished.few_bits;
+        single = all_grown HasOneProduct is.between new is.whole mid.single one is.at.grown;
+        few_bits = all_grown HasFewBits is.between new is.whole mid.few_bits is.finished.few_bits is.at.grown;
       };
       long = omega (arith, length-append places (place ∷ []), are.long);
-      few = omega (arith, few_grown is.whole is.between new is.at.grown, is.rebuilt.few, are.few, next);
-      products = omega (arith, products_grown is.whole is.between new is.at.grown, is.finished.few, is.rebuilt.products, are.products, next);
+      few = omega (arith, few_grown is.between new is.whole is.at.grown, is.rebuilt.few, are.few, next);
+      products = omega (arith, products_grown is.between new is.whole is.at.grown, is.finished.few, is.rebuilt.products, are.products, next);
     }
 
 -- ---- outputs

@@ -2,7 +2,6 @@
 ghost use Rattle.std.specs.Prelude.{◌≡◌, ◌+◌, ◌<◌, ◌≤◌, length, IfOk};
 ghost use Rattle.bit_sums.specs.Sums.{IsProductOver, IsSumOver};
 ghost use Rattle.revs_tape.specs.declared.limits.TheConstants.{MOST_WRITES};
-ghost use Rattle.sum_graph.specs.inside.Placing.{IsNodeAt};
 ghost use Rattle.single_products.specs.inside.Parting.{IsNodeRebuilt, IsOutputRebuilt, IsPart};
 ghost use Rattle.single_products.specs.inside.Parting.{IsRebuiltBut};
 ghost use Rattle.single_products.specs.inside.Renumbering.{has_place};
@@ -13,6 +12,7 @@ use dependency_graph::Base;
 use indexmap::IndexSet;
 use revc_base::Memory;
 use std::alloc::Global;
+use sum_graph::node_of;
 
 /// The place of the node of a sum, behind those of its products but of the one that reads the
 /// latest node.
@@ -90,15 +90,6 @@ fn part(
     }
     let node = node_of(nodes, sum)?;
     GrowingSum::bit(alloc, Base::Node(node))
-}
-
-// The node that has this sum, a new one where none has.
-fn node_of(nodes: &mut IndexSet<Sum>, sum: Sum) -> Result<u32, Memory>
-    requires { length nodes.old.keys < MOST_WRITES }
-    ensures { IfOk result (IsNodeAt sum nodes.old.keys nodes.new.keys) }
-{
-    let (place, _) = nodes.insert_full(sum)?;
-    Ok(place as u32)
 }
 
 // The place of the product that reads the latest node, the first where several do.

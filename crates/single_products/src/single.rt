@@ -1,3 +1,4 @@
+// The graph of single products of a graph of sums.
 ghost use Rattle.std.specs.Prelude.{IfOk, IfSome};
 ghost use Rattle.sum_graph.specs.Graphs.{IsSumGraph};
 ghost use Rattle.single_products.specs.Singles.{IsSingleOrLarge};

@@ -6,7 +6,7 @@ use crate::measures::Measures;
 use crate::rule::Rule;
 use crate::shapes::{SHAPES, blocks_of};
 use crate::sweeping::{Sweep, sweep_over};
-use plan_tools::{Stop, Table, Work};
+use plan_tools::{Size, Stop, Table, Work};
 use span_graphs::{Range, Scheduling, SpanGraph, Turn, chains, minima};
 use std::alloc::Global;
 
@@ -39,12 +39,6 @@ const MOST_BLOCKED: usize = 2;
 
 /// How many lines more than there may be a sweep is kept with, whose nodes may be written out.
 const MOST_OVER: u32 = 64;
-
-/// How a plan is measured: by Toffoli gates, then by lines times gates, then by lines.
-type Cost = (u64, u64, u32);
-
-/// More than any plan costs.
-const MORE: Cost = (u64::MAX, u64::MAX, u32::MAX);
 
 // What a sweep of a rule tells.
 #[derive(Clone, Copy)]
@@ -81,25 +75,25 @@ pub struct Candidates {
     pub near: Option<Candidate>,
 }
 
-// The best sweep of its kind so far, and what it costs.
+// The best sweep of its kind so far, and what its plan costs.
 #[derive(Drop)]
 struct Best {
-    cost: Cost,
+    size: Size,
     candidate: Option<Candidate>,
 }
 
 impl Best {
     fn none() -> Best {
         Best {
-            cost: MORE,
+            size: Size::MOST,
             candidate: None,
         }
     }
 
     // Keeps a sweep that is better.
-    fn keep(&mut self, cost: Cost, candidate: Candidate) {
-        if cost < self.cost {
-            self.cost = cost;
+    fn keep(&mut self, size: Size, candidate: Candidate) {
+        if size < self.size {
+            self.size = size;
             self.candidate = Some(candidate);
         }
     }
@@ -145,7 +139,7 @@ pub fn best_sweeps(
         return Err(Stop::Memory(memory));
     }
     let Search { best, near, .. } = search;
-    let is_better = near.cost < best.cost;
+    let is_better = near.size < best.size;
     Ok(Candidates {
         best: best.candidate,
         near: if is_better { near.candidate } else { None },
@@ -276,8 +270,7 @@ impl Search<'_> {
 
     // Whether the best plan has fewer Toffoli gates than these.
     fn is_beyond(&self, toffoli: u64) -> bool {
-        let (least, _, _) = self.best.cost;
-        least < toffoli
+        self.best.size.toffoli < toffoli
     }
 
     // A sweep, and a second one where the first one told more of nodes without products.
@@ -336,13 +329,12 @@ impl Search<'_> {
     fn judge(&mut self, candidate: Candidate, is_new: bool) -> Outcome {
         let measures = candidate.sweep.measures;
         let lines = self.ports.saturating_add(measures.work);
-        let area = u64::from(lines).saturating_mul(measures.gates());
-        let cost = (measures.toffoli, area, lines);
+        let size = Size::new(measures.toffoli, lines, measures.gates());
         let fits = measures.work <= self.room;
         if fits {
-            self.best.keep(cost, candidate);
+            self.best.keep(size, candidate);
         } else if measures.work - self.room <= MOST_OVER {
-            self.near.keep(cost, candidate);
+            self.near.keep(size, candidate);
         }
         Outcome {
             fits,

@@ -43,11 +43,11 @@ pub record IsGrown (old new : List SumView) : Type 0 where
   pub more : List SumView
   pub is : new ≡ old ++ more
 
-grown_from : (sum : SumView) (old new : List SumView) → (new ≡ old) ⊎ (new ≡ old ++ sum ∷ []) → IsGrown old new
+pub grown_from : (sum : SumView) (old new : List SumView) → (new ≡ old) ⊎ (new ≡ old ++ sum ∷ []) → IsGrown old new
 grown_from sum old new (inl same) = record { more = []; is = same ∙ sym (append-nil old) }
 grown_from sum old new (inr more) = record { more = sum ∷ []; is = more }
 
-longer : (old new : List SumView) → IsGrown old new → length old ≤ length new
+pub longer : (old new : List SumView) → IsGrown old new → length old ≤ length new
 longer old new g = let e : length new ≡ length old + length g.more = ap length g.is ∙ length-append old g.more in omega (arith, e)
 
 pub still_known : (n : ℕ) (old new : List SumView) (sum : SumView) → IsGrown old new → IsKnownSum n (length old) sum → IsKnownSum n (length new) sum
@@ -117,7 +117,7 @@ shortened s sum old new slot nodes known is =
       );
     }
 
-products_grown : (old new : List SumView) (sum : SumView) → (new ≡ old) ⊎ (new ≡ old ++ sum ∷ []) → products_in new ≤ products_in old + length sum.products
+pub products_grown : (old new : List SumView) (sum : SumView) → (new ≡ old) ⊎ (new ≡ old ++ sum ∷ []) → products_in new ≤ products_in old + length sum.products
 products_grown old new sum (inl same) = rw same (omega arith)
 products_grown old new sum (inr more) =
     rw more (omega (arith, sum_by-append (λ (s : SumView). length s.products) old (sum ∷ []), sum_by-cons (λ (s : SumView). length s.products) sum []))
@@ -126,16 +126,16 @@ weight_grown : (old new : List SumView) (sum : SumView) → (new ≡ old) ⊎ (n
 weight_grown old new sum (inl same) = rw same (omega arith)
 weight_grown old new sum (inr more) = rw more (omega (arith, sum_by-append weight_of old (sum ∷ []), sum_by-cons weight_of sum []))
 
-few_grown : (old new : List SumView) (sum : SumView) → (new ≡ old) ⊎ (new ≡ old ++ sum ∷ []) → length new ≤ length old + 1
+pub few_grown : (old new : List SumView) (sum : SumView) → (new ≡ old) ⊎ (new ≡ old ++ sum ∷ []) → length new ≤ length old + 1
 few_grown old new sum (inl same) = rw same (omega arith)
 few_grown old new sum (inr more) = rw more (omega (arith, length-append old (sum ∷ [])))
 
-known_grown : (n : ℕ) (old new : List SumView) (sum : SumView) → AreKnownSums n 0 old → IsKnownSum n (length old) sum
+pub known_grown : (n : ℕ) (old new : List SumView) (sum : SumView) → AreKnownSums n 0 old → IsKnownSum n (length old) sum
     → (new ≡ old) ⊎ (new ≡ old ++ sum ∷ []) → AreKnownSums n 0 new
 known_grown n old new sum nodes known (inl same) = subst (AreKnownSums n 0) (sym same) nodes
 known_grown n old new sum nodes known (inr more) = subst (AreKnownSums n 0) (sym more) (known_more n old sum nodes known)
 
-all_grown : (P : SumView → Type 0) (old new : List SumView) (sum : SumView) → AllByRecursion P old → P sum → (new ≡ old) ⊎ (new ≡ old ++ sum ∷ [])
+pub all_grown : (P : SumView → Type 0) (old new : List SumView) (sum : SumView) → AllByRecursion P old → P sum → (new ≡ old) ⊎ (new ≡ old ++ sum ∷ [])
     → AllByRecursion P new
 all_grown P old new sum all is (inl same) = subst (AllByRecursion P) (sym same) all
 all_grown P old new sum all is (inr more) = subst (AllByRecursion P) (sym more) (AllByRecursion-append P old (sum ∷ []) all (is, tt))

@@ -73,7 +73,7 @@ known_more n nodes s known is =
     let same : length nodes ≡ 0 + length nodes = omega arith in
     AllFrom-push (IsKnownSum n) 0 nodes s known (subst (λ (j : ℕ). IsKnownSum n j s) same is)
 
-base_further : (n k j : ℕ) → k ≤ j → (b : Base) → is_known n k b ≡ true → is_known n j b ≡ true
+pub base_further : (n k j : ℕ) → k ≤ j → (b : Base) → is_known n k b ≡ true → is_known n j b ≡ true
 base_further n k j le (bases.Input i) known = known
 base_further n k j le (bases.Node m) known = lt-ltb m j (omega (arith, ltb-true m k known, le))
 

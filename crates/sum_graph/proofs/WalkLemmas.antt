@@ -48,8 +48,8 @@ drop_at xs k x e =
     let more : k + 1 ≡ suc k = omega arith in
     drop-cons xs k x (slice_get_within xs k x e) ∙ ap₂ (λ y ys. y ∷ ys) (get_or_from_slice_get xs k x x e) (sym (ap (λ n. drop n xs) more))
 
-take_at : {A : Type 0} (xs : List A) (k : ℕ) (x : A) → slice_get xs k ≡ Some x → take (k + 1) xs ≡ take k xs ++ x ∷ []
-take_at xs k x e = take_more xs k x (slice_get_within xs k x e) ∙ ap (λ y. take k xs ++ y ∷ []) (get_or_from_slice_get xs k x x e)
+pub take_next : {A : Type 0} (xs : List A) (k : ℕ) (x : A) → slice_get xs k ≡ Some x → take (k + 1) xs ≡ take k xs ++ x ∷ []
+take_next xs k x e = take_more xs k x (slice_get_within xs k x e) ∙ ap (λ y. take k xs ++ y ∷ []) (get_or_from_slice_get xs k x x e)
 
 last_or_before : {A : Type 0} (xs : List A) (x : A) (j : ℕ) (y : A) → slice_get (xs ++ x ∷ []) j ≡ Some y
     → (slice_get xs j ≡ Some y) ⊎ ((j ≡ length xs) × (x ≡ y))
@@ -181,7 +181,7 @@ more_ands lone nodes k node e =
     let low = slice_get_within nodes k node e in
     let place : 0 + length (take k nodes) ≡ k = omega (arith, length-take-le k nodes (omega (arith, low))) in
     let at = ap (λ i. beside (lone i) (and_count node)) place in
-    let all = ap (ands_beside lone) (take_at nodes k node e) in
+    let all = ap (ands_beside lone) (take_next nodes k node e) in
     omega (arith, all, at, sum_from-append (λ (i : ℕ) (x : Node). beside (lone i) (and_count x)) 0 (take k nodes) node)
 
 pub walked_on : (s : SettledView) (shared : List Bool) (old between : List Slot) (nodes new : List SumView) (k : ℕ) (node : Node) (sum : SumView) (slot : Slot)
@@ -196,7 +196,7 @@ walked_on s shared old between nodes new k node sum slot are w e is placed =
     let long : length between ≡ k = sum_length node old between sum is ∙ w.long in
     let one : IsSlot s new shared left k slot = new_slot s shared left k node nodes new old between sum slot w.settled e step home in
     let ands : sum_by and_count (take (k + 1) s.nodes) ≡ sum_by and_count (take k s.nodes) + and_count node =
-    ap (sum_by and_count) (take_at s.nodes k node e) ∙ sum_by-append and_count (take k s.nodes) (node ∷ []) ∙ omega (arith, sum_by-cons and_count node []) in
+    ap (sum_by and_count) (take_next s.nodes k node e) ∙ sum_by-append and_count (take k s.nodes) (node ∷ []) ∙ omega (arith, sum_by-cons and_count node []) in
     record {
       settled = w.settled;
       long = omega (arith, length-append between (slot ∷ []), long);
@@ -299,7 +299,7 @@ one_more_output s shared old new nodes sums j sig sum settled w e is =
           map-append (sum_on nodes input) sums (sum ∷ [])
           ∙ ap₂ ◌++◌ (w.values input) (ap (λ b. b ∷ []) (out.values input))
           ∙ sym (map-append (settled_value s input) (take j s.outputs) (sig ∷ []))
-          ∙ sym (ap (map (settled_value s input)) (take_at s.outputs j sig e));
+          ∙ sym (ap (map (settled_value s input)) (take_next s.outputs j sig e));
       products = omega (
         arith,
         out.products,

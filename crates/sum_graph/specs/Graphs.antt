@@ -1,6 +1,7 @@
 -- Graphs of sums: nodes that are sums of inputs, of earlier nodes, and of products of two sums of
 -- these.
-use Rattle.std.specs.Prelude.{◌≡◌, ℕ, ◌+◌, ◌*◌, ◌≤◌, Bool, false, List, [], length, map, nat_lt}
+use Rattle.std.specs.Prelude.{◌≡◌, ◌⊎◌, ℕ, ◌+◌, ◌*◌, ◌≤◌, Bool, false, List, [], ◌∷◌, ◌++◌, length, map, nat_lt}
+use Rattle.std.specs.Prelude.{Some, slice_get}
 use Rattle.std.specs.List.{AllByRecursion, sum_by}
 use Rattle.list_facts.specs.Bits.{bit_of}
 use Rattle.list_facts.specs.Lists.{AllFrom}
@@ -46,6 +47,17 @@ pub record IsSumGraph (l : SumGraphView) : Type 0 where
   pub few_inputs : l.inputs ≤ MOST_INPUTS
   pub few_outputs : length l.outputs ≤ MOST_OUTPUTS
   pub few_nodes : length l.nodes ≤ MOST_WRITES
+
+-- ---- sums as nodes
+
+-- a bit as a sum
+abbrev pub bit_sum : Base → SumView
+bit_sum base = record { bits = base ∷ []; products = []; one = false }
+
+-- the place of a sum among the nodes, a new one or one that was there
+pub record IsNodeAt (sum : SumView) (old new : List SumView) (place : ℕ) : Type 0 where
+  pub grown : (new ≡ old) ⊎ (new ≡ old ++ sum ∷ [])
+  pub found : slice_get new place ≡ Some sum
 
 -- ---- values on an input
 

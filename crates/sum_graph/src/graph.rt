@@ -34,8 +34,8 @@ impl Model for SumGraph {
 
 impl SumGraph {
     /// The lean graph of a settled graph: only what has to stand on a line of its own is a node, a
-    /// value with a product in it, or of more than `short` bits or four, that is a factor or is used
-    /// more than once. In time near linear in the nodes and in the terms of their sums.
+    /// value with a product in it, or of more than `short` bits or four, that is a factor or is
+    /// used more than once. In time near linear in the nodes and in the terms of their sums.
     pub fn lean(alloc: Global, graph: &Settled, short: usize) -> Result<SumGraph, Memory>
         ensures lean { IfOk result (IsLeanOf graph.now) }
         ensures keeps { IfOk result IsSumGraph }

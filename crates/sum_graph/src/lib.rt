@@ -12,3 +12,4 @@ mod walk;
 
 pub use graph::SumGraph;
 pub use law::plain_graphs_are_alike;
+pub use placing::node_of;

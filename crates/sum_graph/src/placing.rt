@@ -1,7 +1,8 @@
 // Where the sums of nodes are placed.
 ghost use Rattle.std.specs.Prelude.{◌≡◌, ◌<◌, ◌⊎◌, length, IfOk};
 ghost use Rattle.bit_sums.specs.Bits.{AreRising};
-ghost use Rattle.sum_graph.specs.inside.Placing.{IsNodeAt, IsPlaced};
+ghost use Rattle.sum_graph.specs.Graphs.{IsNodeAt};
+ghost use Rattle.sum_graph.specs.inside.Placing.{IsPlaced};
 ghost use Rattle.revs_tape.specs.declared.limits.TheConstants.{MOST_WRITES};
 
 use crate::slot::Slot;
@@ -37,8 +38,13 @@ pub fn place(
     Ok(Slot::Factor(Factor::bit(alloc, Base::Node(node), one)?))
 }
 
-// The node of the lean graph that has this sum, a new one where none has.
-fn node_of(nodes: &mut IndexSet<Sum>, sum: Sum) -> Result<u32, Memory>
+/// The place of the node that has this sum among some nodes: a new one, behind them, where none has
+/// it.
+///
+/// # Errors
+///
+/// Want of memory.
+pub fn node_of(nodes: &mut IndexSet<Sum>, sum: Sum) -> Result<u32, Memory>
     requires { length nodes.old.keys < MOST_WRITES }
     ensures { IfOk result (IsNodeAt sum nodes.old.keys nodes.new.keys) }
 {

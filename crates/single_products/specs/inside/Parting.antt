@@ -6,8 +6,7 @@ use Rattle.list_facts.specs.Lists.{AllFrom}
 use Rattle.dependency_graph.specs.declared.node.Base.TheVariants as bases
 use Rattle.bit_sums.specs.Growing.{IsFinished}
 use Rattle.bit_sums.specs.Sums.{ProductView, SumView}
-use Rattle.sum_graph.specs.Graphs.{AreKnownSums, HasFewBits, IsKnownSum, SumGraphView, node_value, products_in, sum_on}
-use Rattle.sum_graph.specs.inside.Placing.{IsNodeAt}
+use Rattle.sum_graph.specs.Graphs.{AreKnownSums, HasFewBits, IsKnownSum, IsNodeAt, SumGraphView, node_value, products_in, sum_on}
 use Rattle.single_products.specs.Singles.{HasNoProduct, HasOneProduct}
 use Rattle.single_products.specs.inside.Renumbering.{IsRebuilt, bit_on, product_sum, with_first}
 

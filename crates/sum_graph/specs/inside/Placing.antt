@@ -27,8 +27,3 @@ pub record IsOnNode (sum : SumView) (old new : List SumView) (slot : Slot) : Typ
 abbrev pub IsPlaced : Bool → SumView → List SumView → List SumView → Slot → Type 0
 IsPlaced false sum old new slot = (new ≡ old) × (slot ≡ slots.Sum sum)
 IsPlaced true sum old new slot = IsShortened sum old new slot ⊎ IsOnNode sum old new slot
-
--- the place of a sum among the nodes, a new one or one that was there
-pub record IsNodeAt (sum : SumView) (old new : List SumView) (place : ℕ) : Type 0 where
-  pub grown : (new ≡ old) ⊎ (new ≡ old ++ sum ∷ [])
-  pub found : slice_get new place ≡ Some sum

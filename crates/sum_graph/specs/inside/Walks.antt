@@ -13,7 +13,7 @@ use Rattle.dependency_graph.specs.Graphs.{and_count, base_of, nodes_among}
 use Rattle.claim_check.specs.Settled.{IsSettled, SettledView, settled_value}
 use Rattle.bit_sums.specs.Growing.{FactorView, IsFinished, IsShort, IsSumOf, IsTimes, sum_of_factor}
 use Rattle.bit_sums.specs.Sums.{SumView, weight_of}
-use Rattle.sum_graph.specs.Graphs.{AreKnownSums, HasFewBits, HasNoConstant, IsKnownSum, products_in, sum_on, weight_in}
+use Rattle.sum_graph.specs.Graphs.{AreKnownSums, HasFewBits, HasNoConstant, IsKnownSum, bit_sum, products_in, sum_on, weight_in}
 use Rattle.sum_graph.specs.Lone.{GoToOneOutput, ands_beside, beside, sum_from, times_in, uses_in}
 use Rattle.sum_graph.specs.declared.slot.Slot.{Slot}
 use Rattle.sum_graph.specs.declared.slot.Slot.TheVariants as slots
@@ -84,10 +84,6 @@ pub record AreSlots (s : SettledView) (nodes : List SumView) (shared : List Bool
       → IsSlot s nodes shared left k slot
 
 -- ---- a use
-
--- a bit as a sum
-abbrev pub bit_sum : Base → SumView
-bit_sum base = record { bits = base ∷ []; products = []; one = false }
 
 -- the slot of a node stands
 pub record IsStandingNode (some : List Slot) (k : ℕ) : Type 0 where

@@ -16,7 +16,8 @@ pub returns-then-not-is_output : goal.returns-then-not-is_output
 returns-then-not-is_output c = (
   λ t. absurd (false≢true t),
   λ all.
-      (let here = from_at (λ k (set : List Base). set ≡ ended_set c.args.ends.start c.args.ends.inputs c.args.ends.nodes k) 0 c.loop-k.k c.loop-k.k c.args.sets.now
+      (let here = from_at (λ k (set : List Base). set ≡ ended_set c.args.ends.start c.args.ends.inputs c.args.ends.nodes k) 0
+      c.loop-k.k c.loop-k.k c.args.sets.now
       c.index-sets-k.result (omega arith) c.loop-k-test.true all in
       sym c.if-not-is_output.true ∙ c.is_output.ensures.1 (c.items.ensures ∙ c.index-sets-k.is ∙ here)),
 )
