@@ -7,7 +7,7 @@ ghost use Rattle.circuit_tidy.specs.inside.Work.{IsDone};
 use crate::blocks::first_longer;
 use crate::sweep::swept;
 use circuit_plans::Narrow;
-use flip_lists::{Flip, circuit_of, flips_of, settled};
+use flip_lists::{Flip, circuit_of, flips_of, without_pairs};
 use revc_base::Memory;
 use std::alloc::Global;
 
@@ -39,7 +39,7 @@ fn tidied(alloc: Global, lines: u32, mut flips: Vec<Flip>) -> Result<Vec<Flip>, 
     ensures { IfOk result (λ tidied. IsDone lines flips.items tidied.items) }
 {
     'work: loop {
-        let settled = settled(alloc, lines, &flips)?;
+        let settled = without_pairs(alloc, lines, &flips)?;
         let found = first_longer(alloc, &settled)?;
         match found {
             None => return Ok(settled),

@@ -34,9 +34,9 @@ pub struct Places {
 
 /// The flips, where each is put in order: it goes out with the latest one like it that only flips
 /// free of it are behind, or stays.
-pub fn settled(alloc: Global, lines: u32, flips: &[Flip]) -> Result<Vec<Flip>, Memory>
+pub fn without_pairs(alloc: Global, lines: u32, flips: &[Flip]) -> Result<Vec<Flip>, Memory>
     requires { AllByRecursion (λ flip. IsGateOn lines (gate_of flip)) flips.now }
-    ensures { IfOk result (λ settled. settled.items ≡ reverse (with_flips flips.now [])) }
+    ensures { IfOk result (λ left. left.items ≡ reverse (with_flips flips.now [])) }
 {
     let mut index = Index::new(alloc, lines)?;
     for flip in flips {

@@ -12,7 +12,7 @@ mod spans;
 
 pub use circuits::{circuit_of, flips_of};
 pub use flip::{Controls, Flip};
-pub use index::settled;
+pub use index::without_pairs;
 pub use looks::{Latest, OnLines};
 pub use marks::{Kinds, Marks};
 pub use spans::{Span, Spans};

@@ -230,7 +230,7 @@ no_eager_row s b m short within fit = (let few = fit.few_lines in omega (arith, 
 below_fine : (s : SettledView) (b : BudgetView) (m : Measures) → b.lines < ports_of s + b.borrow → IsWithin s m → IsBelowFineLines b m
 below_fine s b m short within = record { below = λ levels are. omega (arith, short, within.inputs, within.outputs) }
 
-few_ports : (how : Plan) (s : SettledView) (b : BudgetView) → b.lines < ports_of s + b.borrow → LinesAreFew how s b
+few_ports : (plan : Plan) (s : SettledView) (b : BudgetView) → b.lines < ports_of s + b.borrow → LinesAreFew plan s b
 few_ports Auto s b short = record {
   few = λ m within. below_fine s b m short within;
   no_row = λ m within row. elim row as (λ _. ⊥) [
@@ -266,11 +266,11 @@ wanted_ports s b short = elim (cases_Bool (ltb b.lines (ports_of s + b.borrow)))
 ]
 
 -- the refusal where the lines of the inputs, the outputs and the borrowed bits pass the budget
-pub ports_fault : (how : Plan) (s : SettledView) (b : BudgetView) (need : ℕ) → need ≡ ports_of s + b.borrow → b.lines < need
-    → IsChoiceFault how s b (Lines need)
-ports_fault how s b need is short =
+pub ports_fault : (plan : Plan) (s : SettledView) (b : BudgetView) (need : ℕ) → need ≡ ports_of s + b.borrow → b.lines < need
+    → IsChoiceFault plan s b (Lines need)
+ports_fault plan s b need is short =
     let less : b.lines < ports_of s + b.borrow = omega (arith, is, short) in
-    (few_ports how s b less, is ∙ wanted_ports s b less)
+    (few_ports plan s b less, is ∙ wanted_ports s b less)
 
 -- pebbling where the eager numbers do not fit
 pub auto_fault : (s : SettledView) (b : BudgetView) (tried : Result LaidView PlanFault) → NoEagerFits s b → IfErr tried (IsChoiceFault Pebble s b)

@@ -92,8 +92,8 @@ HasFewLines Lean b m = b.lines < lean_lines m b.borrow
 HasFewLines Pebble b m = IsBelowFineLines b m
 HasFewLines Shallow b m = b.lines < lean_lines m b.borrow
 
--- the same of gates; under those three pebbling by smaller blocks saves lines for gates, and the row
--- tells all that is known
+-- the same of gates; under those three pebbling by smaller blocks saves lines for gates, and the
+-- row tells all that is known
 abbrev pub HasFewGates : Plan → BudgetView → Measures → Type 0
 HasFewGates Auto b m = IsBelowFineGates b m
 HasFewGates Compact b m = ¬ LeanFits b m
@@ -104,21 +104,21 @@ HasFewGates Shallow b m = ¬ LeanFits b m
 
 -- within all measures within which the settled graph is, the budget has too few lines, and no
 -- allowed row fits
-pub record LinesAreFew (how : Plan) (s : SettledView) (b : BudgetView) : Type 0 where
-  pub few : (m : Measures) → IsWithin s m → HasFewLines how b m
-  pub no_row : (m : Measures) → IsWithin s m → ¬ SomeRowFits how b m
+pub record LinesAreFew (plan : Plan) (s : SettledView) (b : BudgetView) : Type 0 where
+  pub few : (m : Measures) → IsWithin s m → HasFewLines plan b m
+  pub no_row : (m : Measures) → IsWithin s m → ¬ SomeRowFits plan b m
 
 -- the same of gates
-pub record GatesAreFew (how : Plan) (s : SettledView) (b : BudgetView) : Type 0 where
-  pub few : (m : Measures) → IsWithin s m → HasFewGates how b m
-  pub no_row : (m : Measures) → IsWithin s m → ¬ SomeRowFits how b m
+pub record GatesAreFew (plan : Plan) (s : SettledView) (b : BudgetView) : Type 0 where
+  pub few : (m : Measures) → IsWithin s m → HasFewGates plan b m
+  pub no_row : (m : Measures) → IsWithin s m → ¬ SomeRowFits plan b m
 
 -- why no plan is laid; memory is wanted only where the budget has the lines of the inputs and
 -- outputs
 abbrev pub IsChoiceFault : Plan → SettledView → BudgetView → PlanFault → Type 0
-IsChoiceFault how s b (Lines need) = LinesAreFew how s b × (need ≡ wanted_lines (ports_of s) b)
-IsChoiceFault how s b Gates = GatesAreFew how s b
-IsChoiceFault how s b (Memory _) = HasPortLines (ports_of s) b
+IsChoiceFault plan s b (Lines need) = LinesAreFew plan s b × (need ≡ wanted_lines (ports_of s) b)
+IsChoiceFault plan s b Gates = GatesAreFew plan s b
+IsChoiceFault plan s b (Memory _) = HasPortLines (ports_of s) b
 
 -- ---- what is laid
 

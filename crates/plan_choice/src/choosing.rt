@@ -31,32 +31,37 @@ use sum_graph::SumGraph;
 /// # Errors
 ///
 /// The refusal of the last plan that was tried, under `Lean`, `Compact` and `Shallow` that of the
-/// row; want of memory ends the search. Never where both numbers of a row that `how` allows fit.
+/// row; want of memory ends the search. Never where both numbers of a row that `plan` allows fit.
 /// `Lines` and `Gates` come only where the budget has fewer of them than the fine number of the
 /// graph, for `Eager` than its eager number; for `Lean`, `Compact` and `Shallow`, `Lines` only
 /// where it does not have a line for each node, and `Gates` only where the row does not fit, be it
 /// in lines or in gates. `need` is the number of inputs, outputs and borrowed lines where that
 /// passes the budget, and one line more than the budget otherwise.
-pub fn choose(alloc: Global, graph: &Settled, budget: &Budget, how: Plan) -> Result<Laid, PlanFault>
-    ensures ok { IfOk result (IsLaidFor (start_of how) graph.now budget.now) }
-    ensures chosen { IfOk result (IsChosen how graph.now budget.now) }
-    ensures refused { IfErr result (IsChoiceFault how graph.now budget.now) }
+pub fn choose(
+    alloc: Global,
+    graph: &Settled,
+    budget: &Budget,
+    plan: Plan,
+) -> Result<Laid, PlanFault>
+    ensures ok { IfOk result (IsLaidFor (start_of plan) graph.now budget.now) }
+    ensures chosen { IfOk result (IsChosen plan graph.now budget.now) }
+    ensures refused { IfErr result (IsChoiceFault plan graph.now budget.now) }
 {
     let need = graph.inputs() + graph.outputs().len() as u32 + budget.borrow();
     if need > budget.lines() {
         return Err(PlanFault::Lines { need });
     }
-    chosen(alloc, graph, budget, how)
+    chosen(alloc, graph, budget, plan)
 }
 
 // The first plan that fits the budget, where it has a line for each input, output and borrowed bit.
-fn chosen(alloc: Global, graph: &Settled, budget: &Budget, how: Plan) -> Tried
+fn chosen(alloc: Global, graph: &Settled, budget: &Budget, plan: Plan) -> Tried
     requires { ports_of graph.now + budget.now.borrow ≤ budget.now.lines }
-    ensures ok { IfOk result (IsLaidFor (start_of how) graph.now budget.now) }
-    ensures chosen { IfOk result (IsChosen how graph.now budget.now) }
-    ensures refused { IfErr result (IsChoiceFault how graph.now budget.now) }
+    ensures ok { IfOk result (IsLaidFor (start_of plan) graph.now budget.now) }
+    ensures chosen { IfOk result (IsChosen plan graph.now budget.now) }
+    ensures refused { IfErr result (IsChoiceFault plan graph.now budget.now) }
 {
-    match how {
+    match plan {
         Plan::Auto => eager_or_pebbling(alloc, graph, &SumGraph::plain(alloc, graph)?, budget),
         Plan::Compact => lean_plan(alloc, graph, budget, Start::Zero),
         Plan::Eager => lay_eager(alloc, graph, &SumGraph::plain(alloc, graph)?, budget),

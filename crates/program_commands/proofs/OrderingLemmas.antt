@@ -20,7 +20,7 @@ use Rattle.program_commands.specs.inside.Plans.{IsOrderedPlan, IsPlannedFor}
 
 -- ---- orders under each plan
 
-reordered : (how : Plan) (old new : List GateView) → AreWrittenFor how old new → AreReordered old new
+reordered : (plan : Plan) (old new : List GateView) → AreWrittenFor plan old new → AreReordered old new
 reordered Auto old new is = subst (AreReordered old) (sym is) (AreReordered-refl old)
 reordered Compact old new is = is
 reordered Eager old new is = subst (AreReordered old) (sym is) (AreReordered-refl old)
@@ -28,7 +28,7 @@ reordered Lean old new is = is
 reordered Pebble old new is = subst (AreReordered old) (sym is) (AreReordered-refl old)
 reordered Shallow old new is = subst (AreReordered old) (sym is) (AreReordered-refl old)
 
-further : (how : Plan) (old mid new : List GateView) → AreWrittenFor how old mid → AreWrittenFor how mid new → AreWrittenFor how old new
+further : (plan : Plan) (old mid new : List GateView) → AreWrittenFor plan old mid → AreWrittenFor plan mid new → AreWrittenFor plan old new
 further Auto old mid new one other = other ∙ one
 further Compact old mid new one other = AreReordered-trans old mid new one other
 further Eager old mid new one other = other ∙ one

@@ -44,14 +44,14 @@ use Rattle.program_texts.proofs.FormedLemmas.{some_output}
 
 -- ---- the plan of the graph
 
-clean_plan : (how : Plan) (text : List ℕ) (laid : LaidView) (tape : TapeView) (s : SettledView) (b : BudgetView) (l : LeavesTape text tape)
-    → IsSettledOf tape s → IsPlanOf how s b laid → b.lines ≤ MOST_LINES → b.gates ≤ MOST_GATES → IsCleanPlan (start_of how) laid l.program b
-clean_plan how text laid tape s b l is plan lines gates =
+clean_plan : (plan : Plan) (text : List ℕ) (laid : LaidView) (tape : TapeView) (s : SettledView) (b : BudgetView) (l : LeavesTape text tape)
+    → IsSettledOf tape s → IsPlanOf plan s b laid → b.lines ≤ MOST_LINES → b.gates ≤ MOST_GATES → IsCleanPlan (start_of plan) laid l.program b
+clean_plan plan text laid tape s b l is planned lines gates =
     let some = some_output text l.program tape l.formed l.tape_of in
     let count = is.outputs in
-    let outputs = plan.is.outputs in
-    let sum_of = plan.sum_of in
-    record { tape = tape; tape_of = l.tape_of; graph = s; graph_of = is; plan = plan.is; some = omega arith; most_lines = lines; most_gates = gates }
+    let outputs = planned.is.outputs in
+    let sum_of = planned.sum_of in
+    record { tape = tape; tape_of = l.tape_of; graph = s; graph_of = is; plan = planned.is; some = omega arith; most_lines = lines; most_gates = gates }
 
 computes_on : (start : Start) (laid : LaidView) (p : ProgramView) (b : BudgetView) → IsCleanPlan start laid p b → (input rest : List Bool)
     → IsInput p.params input → length rest ≡ b.borrow → ComputesOn p start (roles_of laid) laid.circuit.gates input rest
@@ -97,7 +97,7 @@ module _ (order : OrderView) (laid : LaidView) (tape : TapeView) (s : SettledVie
     row_fits fit = record { few_lines = omega (arith, same_lines, fit.lines); few_gates = omega (arith, same_gates, fit.gates) }
 
     lean_plan : order.plan ≡ Lean → IsLean s (budget_of order) laid
-    lean_plan lean = subst (λ (how : Plan). IsChosen how s (budget_of order) laid) lean chosen
+    lean_plan lean = subst (λ (p : Plan). IsChosen p s (budget_of order) laid) lean chosen
 
     -- no more ANDs stand in a settled graph than the run of its program writes
     few_toffoli_gates : HasFewToffoliGates order tape laid.circuit.gates
@@ -105,7 +105,7 @@ module _ (order : OrderView) (laid : LaidView) (tape : TapeView) (s : SettledVie
       few = λ which fit. elim which as (λ _. (counts_of laid.circuit.gates).ccx ≤ 2 * ands_of tape) [
         | inl lean ↦ omega (arith, ((lean_plan lean).few m within (row_fits fit)).all, no_larger.ands)
         | inr compact ↦
-            let plan : IsCompact s (budget_of order) laid = subst (λ (how : Plan). IsChosen how s (budget_of order) laid) compact chosen in
+            let plan : IsCompact s (budget_of order) laid = subst (λ (p : Plan). IsChosen p s (budget_of order) laid) compact chosen in
             omega (arith, (plan.few m within (row_fits fit)).all, no_larger.ands)
       ];
     }
@@ -117,7 +117,7 @@ module _ (order : OrderView) (laid : LaidView) (tape : TapeView) (s : SettledVie
     }
 
 -- gates that are not put in another order are written as they may be
-as_laid : (how : Plan) (gates : List GateView) → AreWrittenFor how gates gates
+as_laid : (plan : Plan) (gates : List GateView) → AreWrittenFor plan gates gates
 as_laid Auto gates = refl
 as_laid Compact gates = AreReordered-refl gates
 as_laid Eager gates = refl

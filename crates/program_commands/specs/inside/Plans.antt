@@ -31,10 +31,10 @@ pub record IsCleanPlan (start : Start) (laid : LaidView) (p : ProgramView) (b : 
 
 -- a plan of the settled graph that is allowed, within the budget: its gates are narrow, and on its
 -- lines, which are those of its roles
-pub record IsPlanOf (how : Plan) (graph : SettledView) (b : BudgetView) (laid : LaidView)
+pub record IsPlanOf (plan : Plan) (graph : SettledView) (b : BudgetView) (laid : LaidView)
     : Type 0 where
-  pub is : IsLaidFor (start_of how) graph b laid
-  pub chosen : IsChosen how graph b laid
+  pub is : IsLaidFor (start_of plan) graph b laid
+  pub chosen : IsChosen plan graph b laid
   pub sum_of : laid.inputs + laid.outputs + laid.work + laid.borrowed ≡ laid.circuit.lines
   pub on : AreGatesOn laid.circuit.lines laid.circuit.gates
   pub narrow : AreNarrow laid.circuit.gates
@@ -49,15 +49,15 @@ pub record IsPlannedFor (order : OrderView) (text : List ℕ) (tape : TapeView) 
   pub on : AreGatesOn laid.circuit.lines laid.circuit.gates
 
 -- the same plan with its gates as they are written
-pub record IsOrderedPlan (how : Plan) (old new : LaidView) : Type 0 where
+pub record IsOrderedPlan (plan : Plan) (old new : LaidView) : Type 0 where
   pub roles : roles_of new ≡ roles_of old
   pub lines : new.circuit.lines ≡ old.circuit.lines
-  pub gates : AreWrittenFor how old.circuit.gates new.circuit.gates
+  pub gates : AreWrittenFor plan old.circuit.gates new.circuit.gates
 
 -- why a settled graph has no plan within the budget, or there was no memory left
 abbrev pub IsPlanningFault : Plan → SettledView → BudgetView → Fault → Type 0
-IsPlanningFault how s b (Lines need limit) =
-    LinesAreFew how s b × (need ≡ wanted_lines (s.inputs + length s.outputs) b) × (limit ≡ b.lines)
-IsPlanningFault how s b (Gates limit) = GatesAreFew how s b × (limit ≡ b.gates)
-IsPlanningFault how s b (Memory _) = Unit {0}
-IsPlanningFault how s b _ = ⊥
+IsPlanningFault plan s b (Lines need limit) =
+    LinesAreFew plan s b × (need ≡ wanted_lines (s.inputs + length s.outputs) b) × (limit ≡ b.lines)
+IsPlanningFault plan s b (Gates limit) = GatesAreFew plan s b × (limit ≡ b.gates)
+IsPlanningFault plan s b (Memory _) = Unit {0}
+IsPlanningFault plan s b _ = ⊥
