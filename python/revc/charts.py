@@ -10,8 +10,8 @@ COLOURS = ["#1f4e9c", "#b3441e", "#2e7d32", "#6a3d9a"]
 STYLE = "text { font: 13px sans-serif; fill: #1b1b1b } .grid { stroke: #dddddd } .axis { stroke: #1b1b1b }"
 
 
-def chart(curves: Sequence[Curve]) -> str:
-    """A curve for each program, a point for each of its circuits."""
+def chart(curves: Sequence[Curve], counted: str) -> str:
+    """A curve for each program, a point for each of its circuits: what is `counted` against lines."""
     points = [point for _, each in curves for point in each]
     x, y = axis([p[0] for p in points], LEFT, WIDTH - RIGHT), axis([p[1] for p in points], HEIGHT - BOTTOM, TOP)
     out = [f'<svg xmlns="http://www.w3.org/2000/svg" width="{WIDTH}" height="{HEIGHT}" viewBox="0 0 {WIDTH} {HEIGHT}">',
@@ -25,7 +25,7 @@ def chart(curves: Sequence[Curve]) -> str:
     out += [line(LEFT, HEIGHT - BOTTOM, WIDTH - RIGHT, HEIGHT - BOTTOM, "axis"),
             line(LEFT, TOP, LEFT, HEIGHT - BOTTOM, "axis"),
             text((LEFT + WIDTH - RIGHT) / 2, HEIGHT - 14, "lines", "middle"),
-            text(LEFT, TOP - 8, "Toffoli gates", "start")]
+            text(LEFT, TOP - 8, counted, "start")]
     for number, each in enumerate(curves):
         out += curve(each, x[0], y[0], COLOURS[number % len(COLOURS)], number)
     return "\n".join(out + ["</svg>", ""])
@@ -47,7 +47,7 @@ class Scale:
 
 
 def curve(each: Curve, x: "Scale", y: "Scale", colour: str, number: int) -> Iterator[str]:
-    points = sorted((x(lines), y(toffoli)) for lines, toffoli in each[1])
+    points = sorted((x(lines), y(count)) for lines, count in each[1])
     path = " ".join(f"{across:.1f},{down:.1f}" for across, down in points)
     yield f'<polyline points="{path}" fill="none" stroke="{colour}" stroke-width="1.6"/>'
     for across, down in points:

@@ -19,6 +19,8 @@ from .searches import HALVINGS, Search, all_plans, every_circuit
 # The counts that a table shows, by what `by` calls them.
 COUNTS = {"lines": "lines", "gates": "gates", "toffoli": "Toffoli", "toffoli_depth": "Toffoli depth", "depth": "depth",
           "t": "T"}
+# What stands at the side of a picture, where that is not the head of its column.
+DRAWN = {"toffoli": "Toffoli gates", "t": "T gates"}
 BY = "toffoli"
 
 
@@ -61,7 +63,7 @@ class Costs(List[Row]):
     """The circuits that no other one beats in all of the counts that are shown, as a list of rows.
 
     Each row has `plan`, `lines` (what to give to `compile`), `cost` (all counts) and `call`. `print` and notebooks show
-    them as a table, the least of `by` first; `draw` shows Toffoli gates against lines. `is_late` says that `timeout`
+    them as a table, the least of `by` first; `draw` shows what `by` counts against lines. `is_late` says that `timeout`
     seconds were over before all was tried.
     """
 
@@ -122,9 +124,13 @@ class Costs(List[Row]):
     def draw(self, path: None = None, *others: "Costs") -> Picture: ...
 
     def draw(self, path: Optional[str] = None, *others: "Costs") -> Optional[Picture]:
-        """Toffoli gates against lines as SVG, of this program and of others; or it is written to the file `path`."""
-        picture = Picture(chart([(each.name, [(row.cost.lines, row.cost.toffoli) for row in each])
-                                 for each in (self, *others)]))
+        """What `by` counts against lines as SVG, of this program and of others; or it is written to the file `path`.
+
+        Toffoli gates where `by` is "lines".
+        """
+        by = BY if self.by == "lines" else self.by
+        curves = [(each.name, [(row.cost.lines, getattr(row.cost, by)) for row in each]) for each in (self, *others)]
+        picture = Picture(chart(curves, DRAWN.get(by, COUNTS[by])))
         return picture.write(path) if path else picture
 
 
