@@ -1,14 +1,19 @@
 -- The beginning and the end of the eager plan.
-use Rattle.std.proofs.Common.{◌≡◌, ℕ, zero, suc, ◌+◌, ◌*◌, ◌≤◌, false, List, [], ◌∷◌, inl, inr}
+use Rattle.std.proofs.Common.{◌≡◌, ℕ, zero, suc, ◌+◌, ◌*◌, ◌≤◌, Bool, false, List, [], ◌∷◌, ◌++◌, inl, inr}
 use Rattle.std.proofs.Common.{length, map, sum_by, replicate, Option, None, is_some, refl, sym, ap, ◌∙◌, subst, arith}
 use Rattle.std.specs.List.{AllByRecursion}
 use Rattle.std.proofs.lemmas.Bool.{true≢false}
 use Rattle.claim_check.specs.Budgets.{Measures, eager_gates}
 use Rattle.claim_check.specs.Measures.{IsWithin}
-use Rattle.claim_check.specs.Settled.{SettledView, IsSettled}
+use Rattle.claim_check.specs.Settled.{SettledView, IsSettled, settled_outputs}
 use Rattle.std.proofs.lemmas.List.{length-map}
-use Rattle.sum_graph.specs.Graphs.{SumGraphView}
+use Rattle.sum_graph.specs.Graphs.{SumGraphView, sum_outputs}
 use Rattle.sum_graph.specs.Plain.{plain_of, plain_output, plain_sum}
+use Rattle.sum_graph.proofs.PlainLemmas.{plain_graphs_are_alike}
+use Rattle.mct_circuit.specs.Gates.{GateView}
+use Rattle.circuit_plans.specs.declared.roles.Roles.{Roles}
+use Rattle.circuit_plans.specs.declared.roles.Start.{Start}
+use Rattle.circuit_plans.specs.declared.roles.Start.TheVariants.{Any}
 use Rattle.sum_toggles.specs.Toggles.{toggle_weight}
 use Rattle.dependency_graph.specs.declared.node.Base.TheVariants as bases
 use Rattle.dependency_graph.specs.declared.node.Sig.{Sig}
@@ -16,7 +21,7 @@ use Rattle.dependency_graph.specs.declared.node.Sig.TheVariants.{Const, Is}
 use Rattle.dependency_graph.specs.Graphs.{IsKnownSig}
 use Rattle.circuit_plans.specs.declared.plan.PlanFault.{PlanFault}
 use Rattle.circuit_plans.specs.declared.plan.PlanFault.TheVariants.{Lines, Gates, Memory}
-use Rattle.circuit_plans.specs.Plans.{BudgetView, PlannedView}
+use Rattle.circuit_plans.specs.Plans.{AddsOutputs, BudgetView, PlannedView, added}
 use Rattle.held_nodes.specs.Held.{ForwardView, IsForward, held_line, is_held}
 use Rattle.sum_graph.specs.Graphs.{first_work}
 use Rattle.held_nodes.specs.Moves.{IsFinishFault, IsReadySum, copies_from, copies_of, nothing_held, planned_of}
@@ -134,3 +139,21 @@ finish_fault s b f Gates is fault = record {
   );
 }
 finish_fault s b f (Memory _) is fault = has_port_lines s b (length s.nodes) [] f is
+
+-- ---- the outputs
+
+-- gates that add some outputs add the same outputs
+pub same_outputs : (start : Start) (roles : Roles) (gates : List GateView) (value other : List Bool → List Bool)
+    → ((input : List Bool) → value input ≡ other input) → AddsOutputs start roles gates value → AddsOutputs start roles gates other
+same_outputs start roles gates value other same clean = record {
+  size = λ input size. sym (ap (λ (bits : List Bool). length bits) (same input)) ∙ clean.size input size;
+  adds = λ input held borrowed size wide may long. record {
+    mapped = (clean.adds input held borrowed size wide may long).mapped
+        ∙ ap (λ (outputs : List Bool). input ++ (added held outputs ++ (replicate roles.work false ++ borrowed))) (same input);
+  };
+}
+
+-- gates that add the outputs of the plain graph add those of the settled one
+pub plain_clean : (s : SettledView) (roles : Roles) (gates : List GateView) → AddsOutputs Any roles gates (sum_outputs (plain_of s))
+    → AddsOutputs Any roles gates (settled_outputs s)
+plain_clean s roles gates = same_outputs Any roles gates (sum_outputs (plain_of s)) (settled_outputs s) (plain_graphs_are_alike s).outputs

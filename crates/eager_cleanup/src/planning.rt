@@ -32,7 +32,6 @@ use sum_graph::SumGraph;
 /// `Lines` and `Gates` only where the budget has fewer of them than the eager number of the graph.
 /// `need` is the number of inputs, outputs and borrowed lines where that passes the budget, and one
 /// line more than the budget otherwise.
-#[tactic(auto, using(sum_graph::proofs::PlainLemmas::plain_graphs_are_alike))]
 pub fn plan(
     alloc: Global,
     graph: &Settled,

@@ -28,7 +28,7 @@ use Rattle.plan_choice.specs.Choices.{IsChoiceFault, IsLaidFor, IsLean, IsOfLean
 use Rattle.plan_choice.specs.Lean.{OneBlockFits, HasFewToffoliGates, toffoli}
 use Rattle.plan_choice.specs.inside.Tried as tried
 use Rattle.plan_choice.specs.inside.Tried.{IsLaidAsIs, IsLaidLean, IsLeanFault, IsMost, IsRow}
-use Rattle.plan_choice.proofs.SplitLemmas.{same_outputs}
+use Rattle.eager_cleanup.proofs.PlanLemmas.{same_outputs}
 
 -- ---- the row
 

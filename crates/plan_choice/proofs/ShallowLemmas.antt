@@ -17,7 +17,7 @@ use Rattle.single_products.specs.Singles.{IsSingleOf}
 use Rattle.sum_graph.specs.Graphs.{IsLeanOf, SumGraphView, sum_outputs}
 use Rattle.plan_choice.specs.Choices.{IsChoiceFault, IsLaidFor, IsLean}
 use Rattle.plan_choice.specs.inside.Tried.{HasOutputsOf, IsLaidAsIs, IsShallowFor}
-use Rattle.plan_choice.proofs.SplitLemmas.{same_outputs}
+use Rattle.eager_cleanup.proofs.PlanLemmas.{same_outputs}
 
 pub lean_outputs : (s : SettledView) (l : SumGraphView) → IsLeanOf s l → HasOutputsOf s l
 lean_outputs s l lean = record { inputs = lean.inputs; outputs = lean.outputs; values = lean.values }

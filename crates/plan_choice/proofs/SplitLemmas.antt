@@ -16,8 +16,6 @@ use Rattle.dependency_graph.specs.declared.node.Sig.{Sig}
 use Rattle.claim_check.specs.Budgets.{Measures}
 use Rattle.claim_check.specs.Measures.{IsWithin}
 use Rattle.claim_check.specs.Settled.{SettledView, settled_outputs}
-use Rattle.circuit_plans.specs.declared.roles.Roles.{Roles}
-use Rattle.sum_graph.specs.Graphs.{sum_outputs}
 use Rattle.sum_graph.specs.Plain.{plain_of, plain_output, plain_sum}
 use Rattle.sum_graph.proofs.PlainLemmas.{plain_graphs_are_alike}
 use Rattle.sum_toggles.specs.Toggles.{toggle_weight}
@@ -33,7 +31,7 @@ use Rattle.circuit_plans.specs.declared.plan.PlanFault.TheVariants.{Lines, Gates
 use Rattle.gate_split.specs.Costs.{IsRoomyFlip, NarrowStay, RoomyFlipsAreSplit, most_gates}
 use Rattle.circuit_plans.specs.declared.roles.Start.{Start}
 use Rattle.circuit_plans.specs.declared.roles.Start.TheVariants.{Any}
-use Rattle.circuit_plans.specs.Plans.{AddsOutputs, BudgetView, CleanCircuitsBorrow, LaidView, PlannedView, added, lines_in, with_borrowed}
+use Rattle.circuit_plans.specs.Plans.{AddsOutputs, BudgetView, CleanCircuitsBorrow, LaidView, PlannedView, lines_in, with_borrowed}
 use Rattle.gate_split.specs.Split.{IsSplitList, PassesLimit}
 use Rattle.gate_split.proofs.SplitListLemmas.{one_split}
 use Rattle.circuit_plans.specs.Plans.{roles_of_plan}
@@ -271,22 +269,6 @@ block_fault s block b Gates h =
     let one = one_block s b.borrow in
     settled_rows s block b.borrow (λ lines gates. b.gates < gates) (λ few. omega (arith, few, one.1)) h
 block_fault s block b (Memory _) h = omega (arith, h, ports_same s)
-
--- gates that add some outputs add the same outputs
-pub same_outputs : (start : Start) (roles : Roles) (gates : List GateView) (value other : List Bool → List Bool)
-    → ((input : List Bool) → value input ≡ other input) → AddsOutputs start roles gates value → AddsOutputs start roles gates other
-same_outputs start roles gates value other same clean = record {
-  size = λ input size. sym (ap (λ (bits : List Bool). length bits) (same input)) ∙ clean.size input size;
-  adds = λ input held borrowed size wide may long. record {
-    mapped = (clean.adds input held borrowed size wide may long).mapped
-        ∙ ap (λ (outputs : List Bool). input ++ (added held outputs ++ (replicate roles.work false ++ borrowed))) (same input);
-  };
-}
-
--- gates that add the outputs of the plain graph add those of the settled one
-pub plain_clean : (s : SettledView) (roles : Roles) (gates : List GateView) → AddsOutputs Any roles gates (sum_outputs (plain_of s))
-    → AddsOutputs Any roles gates (settled_outputs s)
-plain_clean s roles gates = same_outputs Any roles gates (sum_outputs (plain_of s)) (settled_outputs s) (plain_graphs_are_alike s).outputs
 
 pub laid_for : (s : SettledView) (b : BudgetView) (p : PlannedView) (laid : LaidView) → HasPorts s.inputs (length s.outputs) p
     → AddsOutputs Any (roles_of_plan p) p.circuit.gates (settled_outputs s) → IsLaidOf p b laid → IsLaidFor Any s b laid

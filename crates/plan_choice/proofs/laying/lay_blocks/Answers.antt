@@ -6,7 +6,8 @@ use Rattle.circuit_plans.specs.declared.roles.Start.TheVariants.{Any}
 use Rattle.plan_choice.specs.Blocks.{IsPebblingFault}
 use Rattle.plan_choice.specs.Choices.{IsLaidFor}
 use Rattle.plan_choice.specs.inside.Tried.{IsLaidAsIs, IsLaidInBlocks}
-use Rattle.plan_choice.proofs.SplitLemmas.{block_fault, block_within, laid_blocks, laid_for, memory_wanted, plain_clean, plain_ports, port_lines}
+use Rattle.plan_choice.proofs.SplitLemmas.{block_fault, block_within, laid_blocks, laid_for, memory_wanted, plain_ports, port_lines}
+use Rattle.eager_cleanup.proofs.PlanLemmas.{plain_clean}
 use Rattle.plan_choice.proofs.laying.lay_blocks.Goals as goal
 
 pub returns-clause-refused : goal.returns-clause-refused

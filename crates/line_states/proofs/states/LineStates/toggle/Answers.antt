@@ -11,7 +11,7 @@ use Rattle.line_states.proofs.ToggleLemmas.{CanToggle, tests_can, toggle_moves}
 use Rattle.line_states.proofs.states.LineStates.toggle.Goals as goal
 use Rattle.line_states.proofs.states.LineStates.toggle.Goals.{After-items}
 
-states_of : After-items → StatesView
+abbrev states_of : After-items → StatesView
 states_of c = record {
   graph = c.self.inside.graph.now;
   budget = c.self.inside.budget.now;
