@@ -84,7 +84,7 @@ abbrev pub Agrees : Comparison → Type 0
 Agrees q = AddsOutputs q.start (roles_in q) q.circuit.gates q.program.value
 
 -- ---- variables: the inputs in their order, then the output lines where they may hold any bits,
--- and then the borrowed ---- lines
+-- and then the borrowed lines
 
 -- how many of so many output lines have a variable
 abbrev pub output_variables : Start → ℕ → ℕ

@@ -1,6 +1,5 @@
+// The laws of comparisons. Each function here does nothing: its contract is the law.
 ghost use Rattle.circuit_verify.specs.Verdicts.{ComparisonsEndInOneWay, SaidOfTapes};
-
-// Each function here does nothing: its contract is the law.
 
 /// The law of ends: a circuit that agrees differs nowhere, narrow gates have no first wide one, and
 /// the first wide gate, the first line that differs and its least bits are the only ones.
