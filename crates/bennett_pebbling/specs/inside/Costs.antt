@@ -29,7 +29,8 @@ abbrev pub price_if : Bool → ℕ → ℕ
 price_if true price = price
 price_if false price = 0
 
--- the gates are too few where toggles of this weight are added; of another fault nothing is said
+-- the gates are too few where toggles of this weight are added; a line or memory may be wanted at
+-- the first of them, whatever all weigh
 abbrev pub IsHeavy : ForwardView → ℕ → PlanFault → Type 0
 IsHeavy f weight (Lines need) = ⊤
 IsHeavy f weight Gates = f.budget.gates < 2 * (weight_in f.gates + weight)
@@ -47,8 +48,8 @@ pub record IsMove (f : ForwardView) (reach toggles : ℕ) (next : ForwardView) :
   pub weight : IsLight f.graph → weight_in next.gates ≤ weight_in f.gates + 2 * toggles
   pub narrow : AreNarrow f.gates → AreNarrow next.gates
 
--- one line more than the budget has is wanted, and it has fewer work lines than there are nodes; of
--- another fault nothing is said
+-- one line more than the budget has is wanted, and it has fewer work lines than there are nodes;
+-- gates or memory may be wanted however many it has
 abbrev pub HasNeed : ForwardView → PlanFault → Type 0
 HasNeed f (Lines need) =
     (need ≡ f.budget.lines + 1) × (work_lines f.graph f.budget < length f.graph.nodes)
