@@ -1,52 +1,60 @@
 // Why sums do not verify a circuit.
 ghost use Rattle.std.specs.Prelude.{◌≡◌};
-ghost use Rattle.sum_verify.specs.declared.fault.SumsFault.TheVariants as faults;
-ghost use Rattle.sum_verify.specs.inside.Faults.{sums_fault};
+ghost use Rattle.sum_verify.specs.declared.fault.FormsFault.TheVariants as faults;
+ghost use Rattle.sum_verify.specs.inside.Faults.{forms_fault};
 
+use crate::Unsettled;
 use product_sums::ProductsFault;
 use revc_base::{Memory, WantOfMemory};
 use std::alloc::{AllocError, AllocFailed};
 
 /// Why a circuit that can be compared is not verified by sums of products.
-#[derive(Clone, Copy, Debug, PartialEq, Eq)]
-pub enum SumsFault {
+#[derive(Drop)]
+pub enum SumsFault<'s> {
     /// The sums do not tell: some line is not known to end as it should, or a limit is passed.
-    Unsettled,
+    Unsettled(Unsettled<'s>),
     /// Want of memory.
     Memory(Memory),
 }
 
-impl From<ProductsFault> for SumsFault {
-    ghost from_gives = { λ products fault. fault ≡ sums_fault products };
+// Why the forms of nodes and lines do not verify a circuit.
+#[derive(Clone, Copy, Debug, PartialEq, Eq)]
+pub enum FormsFault {
+    Unsettled,
+    Memory(Memory),
+}
 
-    fn from(fault: ProductsFault) -> SumsFault {
+impl From<ProductsFault> for FormsFault {
+    ghost from_gives = { λ products fault. fault ≡ forms_fault products };
+
+    fn from(fault: ProductsFault) -> FormsFault {
         match fault {
-            ProductsFault::Limit => SumsFault::Unsettled,
-            ProductsFault::Memory(memory) => SumsFault::Memory(memory),
+            ProductsFault::Limit => FormsFault::Unsettled,
+            ProductsFault::Memory(memory) => FormsFault::Memory(memory),
         }
     }
 }
 
-impl From<Memory> for SumsFault {
+impl From<Memory> for FormsFault {
     ghost from_gives = { λ _ fault. fault ≡ faults.Memory _ };
 
-    fn from(want: Memory) -> SumsFault {
-        SumsFault::Memory(want)
+    fn from(want: Memory) -> FormsFault {
+        FormsFault::Memory(want)
     }
 }
 
-impl From<AllocError> for SumsFault {
+impl From<AllocError> for FormsFault {
     ghost from_gives = { λ _ fault. fault ≡ faults.Memory _ };
 
-    fn from(want: AllocError) -> SumsFault {
-        SumsFault::Memory(want.memory())
+    fn from(want: AllocError) -> FormsFault {
+        FormsFault::Memory(want.memory())
     }
 }
 
-impl<T: Drop> From<AllocFailed<T>> for SumsFault {
+impl<T: Drop> From<AllocFailed<T>> for FormsFault {
     ghost from_gives = { λ _ fault. fault ≡ faults.Memory _ };
 
-    fn from(want: AllocFailed<T>) -> SumsFault {
-        SumsFault::Memory(want.memory())
+    fn from(want: AllocFailed<T>) -> FormsFault {
+        FormsFault::Memory(want.memory())
     }
 }

@@ -8,7 +8,7 @@ ghost use Rattle.circuit_verify.specs.Comparisons.{input_bits, start_on, wanted_
 ghost use Rattle.circuit_verify.specs.Verdicts.{IsVerified};
 ghost use Rattle.sum_verify.specs.inside.Forms.{AreFormsOf, HasVariables, IsFormOf};
 
-use crate::SumsFault;
+use crate::fault::FormsFault;
 use crate::start::start_form;
 use circuit_verify::Compared;
 use linear_forms::Form;
@@ -23,7 +23,7 @@ fn wanted_form(
     compared: &Compared,
     outputs: &[Form],
     line: u32,
-) -> Result<Form, SumsFault>
+) -> Result<Form, FormsFault>
     requires line { line < compared.now.circuit.lines }
     requires outputs { AreFormsOf (comparison compared.now) products.old
         (length compared.now.graph.outputs) outputs.now (λ bits. settled_outputs compared.now.graph
@@ -55,7 +55,7 @@ pub fn judge(
     compared: &Compared,
     outputs: &[Form],
     lines: &[Form],
-) -> Result<(), SumsFault>
+) -> Result<(), FormsFault>
     requires variables { HasVariables (comparison compared.now) products.old }
     requires outputs { AreFormsOf (comparison compared.now) products.old
         (length compared.now.graph.outputs) outputs.now (λ bits. settled_outputs compared.now.graph
@@ -70,7 +70,7 @@ pub fn judge(
     for (line, form) in lines.iter().enumerate() {
         let wanted = wanted_form(alloc, products, compared, outputs, line as u32)?;
         if !is_same(form, &wanted) {
-            return Err(SumsFault::Unsettled);
+            return Err(FormsFault::Unsettled);
         }
     }
     Ok(())

@@ -9,7 +9,7 @@ ghost use Rattle.sum_verify.specs.inside.Forms.{AreFormsOf, HasVariables};
 ghost use Rattle.sum_verify.specs.inside.Nodes.{AreDeterminedBases, HoldsNodes, IsNodeForm};
 ghost use Rattle.sum_verify.specs.inside.Nodes.{KeepsForms, base_form};
 
-use crate::SumsFault;
+use crate::fault::FormsFault;
 use circuit_verify::Compared;
 use claim_check::Settled;
 use dependency_graph::{Base, Node};
@@ -22,13 +22,13 @@ pub fn base_form<'f>(
     lines: &'f [Form],
     nodes: &'f [Option<Form>],
     base: Base,
-) -> Result<&'f Form, SumsFault>
+) -> Result<&'f Form, FormsFault>
     requires { IsKnownBase (length lines.now) (length nodes.now) base }
     ensures { IfOk result (λ form. base_form lines.now nodes.now base ≡ Some form.now) }
 {
     match base {
         Base::Input(i) => Ok(&lines[i as usize]),
-        Base::Node(k) => nodes[k as usize].as_ref().ok_or(SumsFault::Unsettled),
+        Base::Node(k) => nodes[k as usize].as_ref().ok_or(FormsFault::Unsettled),
     }
 }
 
@@ -38,7 +38,7 @@ fn node_form(
     lines: &[Form],
     nodes: &[Option<Form>],
     node: Node,
-) -> Result<Form, SumsFault>
+) -> Result<Form, FormsFault>
     requires known { IsKnownNode (length lines.now) (length nodes.now) node }
     requires determined { AreDeterminedBases products.old lines.now nodes.now }
     ensures extends { OnOk result (Extends products.old products.new) }
@@ -123,7 +123,7 @@ fn add_node(
     lines: &[Form],
     nodes: &mut Vec<Option<Form>>,
     k: u32,
-) -> Result<(), SumsFault>
+) -> Result<(), FormsFault>
     requires inside { k < length compared.now.graph.nodes }
     requires variables { HasVariables (comparison compared.now) products.old }
     requires lines { AreFormsOf (comparison compared.now) products.old compared.now.circuit.lines
@@ -147,7 +147,7 @@ pub fn node_forms(
     products: &mut Products,
     compared: &Compared,
     lines: &[Form],
-) -> Result<Vec<Option<Form>>, SumsFault>
+) -> Result<Vec<Option<Form>>, FormsFault>
     requires variables { HasVariables (comparison compared.now) products.old }
     requires lines { AreFormsOf (comparison compared.now) products.old compared.now.circuit.lines
         lines.now (start_on (comparison compared.now)) }

@@ -8,7 +8,7 @@ ghost use Rattle.circuit_verify.specs.Comparisons.{input_bits, start_on};
 ghost use Rattle.sum_verify.specs.inside.Forms.{AreFormsOf, HasVariables};
 ghost use Rattle.sum_verify.specs.inside.Nodes.{IsSigForm};
 
-use crate::SumsFault;
+use crate::fault::FormsFault;
 use crate::nodes::{base_form, node_forms};
 use circuit_verify::Compared;
 use dependency_graph::Sig;
@@ -22,7 +22,7 @@ fn sig_form(
     lines: &[Form],
     nodes: &[Option<Form>],
     sig: Sig,
-) -> Result<Form, SumsFault>
+) -> Result<Form, FormsFault>
     requires { IsKnownSig (length lines.now) (length nodes.now) sig }
     ensures { IfOk result (IsSigForm lines.now nodes.now sig) }
 {
@@ -41,7 +41,7 @@ pub fn output_forms(
     products: &mut Products,
     compared: &Compared,
     lines: &[Form],
-) -> Result<Vec<Form>, SumsFault>
+) -> Result<Vec<Form>, FormsFault>
     requires variables { HasVariables (comparison compared.now) products.old }
     requires lines { AreFormsOf (comparison compared.now) products.old compared.now.circuit.lines
         lines.now (start_on (comparison compared.now)) }

@@ -1,9 +1,11 @@
 // A circuit against a settled graph.
-ghost use Rattle.std.specs.Prelude.{OnOk};
+ghost use Rattle.std.specs.Prelude.{◌≡◌, IfErr, OnOk};
 ghost use Rattle.circuit_verify.specs.Compared.{comparison};
 ghost use Rattle.circuit_verify.specs.Verdicts.{IsVerified};
+ghost use Rattle.sum_verify.specs.Faults.{IsSumsFault};
 
 use crate::SumsFault;
+use crate::fault::FormsFault;
 use crate::judging::judge;
 use crate::outputs::output_forms;
 use crate::start::start_forms;
@@ -11,6 +13,31 @@ use crate::walking::walk;
 use circuit_verify::Compared;
 use product_sums::Products;
 use std::alloc::Global;
+use std::marker::Model;
+
+/// A comparison that sums leave unsettled. [`verify`] alone makes one, so who has one asked it of
+/// this very comparison.
+#[derive(Drop)]
+pub struct Unsettled<'s> {
+    compared: Compared<'s>,
+}
+
+impl<'s> Model for Unsettled<'s> {
+    ghost use Rattle.circuit_verify.specs.Compared.{ComparedView};
+
+    ghost Value = { ComparedView };
+
+    ghost view = { λ left. left.compared };
+}
+
+impl<'s> Unsettled<'s> {
+    /// The comparison.
+    pub fn compared(&self) -> &Compared<'s>
+        ensures { result.now ≡ self.now }
+    {
+        &self.compared
+    }
+}
 
 /// Verifies that a circuit computes the outputs of a settled graph: on every input, whatever the
 /// output lines hold that they may, with 0 on the work lines and whatever the borrowed lines hold,
@@ -22,9 +49,22 @@ use std::alloc::Global;
 ///
 /// # Errors
 ///
-/// `Unsettled` where a line has another sum than it should have, or a limit is passed, which says
-/// nothing of the circuit, and `Memory` for want of memory.
-pub fn verify(alloc: Global, compared: &Compared) -> Result<(), SumsFault>
+/// `Unsettled` with the comparison, where a line has another sum than it should have, or a limit is
+/// passed, which says nothing of the circuit, and `Memory` for want of memory.
+pub fn verify(alloc: Global, compared: Compared<'_>) -> Result<(), SumsFault<'_>>
+    ensures verified { OnOk result (IsVerified (comparison compared.entry)) }
+    ensures unsettled { IfErr result (IsSumsFault compared.entry) }
+{
+    let _ = compared.variables(); // shows what is known of both
+    match verify_forms(alloc, &compared) {
+        Ok(()) => Ok(()),
+        Err(FormsFault::Unsettled) => Err(SumsFault::Unsettled(Unsettled { compared })),
+        Err(FormsFault::Memory(memory)) => Err(SumsFault::Memory(memory)),
+    }
+}
+
+// The circuit is verified, where the forms of its lines tell.
+fn verify_forms(alloc: Global, compared: &Compared) -> Result<(), FormsFault>
     ensures { OnOk result (IsVerified (comparison compared.now)) }
 {
     let mut products = Products::new(alloc, compared.variables());

@@ -8,7 +8,6 @@ ghost use Rattle.circuit_verify.specs.Comparisons.{start_on};
 ghost use Rattle.sum_verify.specs.inside.Forms.{AreDetermined, AreFormsOf, HasVariables};
 ghost use Rattle.sum_verify.specs.inside.Forms.{IsFlipped};
 
-use crate::SumsFault;
 use circuit_verify::{Compared, target_of};
 use linear_forms::Form;
 use mct_circuit::Gate;

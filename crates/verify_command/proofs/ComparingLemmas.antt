@@ -26,14 +26,21 @@ use Rattle.program_texts.specs.Clean.{IsCleanCircuit}
 use Rattle.program_texts.specs.Outcomes.{IsSettlingFault, IsTextFault}
 use Rattle.program_texts.specs.Settling.{ForTexts, IsSettledWithin, LeavesSettled, LeavesTape}
 use Rattle.revc_words.specs.Words.{OrderView}
+use Rattle.revc_words.specs.declared.order.Way.{Way}
+use Rattle.revc_words.specs.declared.order.Way.TheVariants as ways
+use Rattle.revs_parser.specs.declared.limits.TheConstants.{MOST_BYTES}
 use Rattle.revs_tape.specs.Tapes.{TapeView, bit_on, outputs_on}
 use Rattle.revs_terms.proofs.TapeLemmas.{tape_gives_output}
+use Rattle.sum_verify.specs.declared.fault.SumsFault.TheVariants as sums
 use Rattle.verify_command.specs.Parting.{IsParted}
 use Rattle.verify_command.specs.Outcomes.{IsVerifyingFault}
 use Rattle.verify_command.specs.Verify.{AreVerified, Gives, HasDiagrams, comparison_of, verified_text}
 use Rattle.verify_command.specs.declared.limits.TheConstants.{MOST_SOURCE_BYTES}
-use Rattle.verify_command.specs.inside.Mappings.{IsCountable, IsNamedIn, comparing_fault, not_comparable_fault}
+use Rattle.verify_command.specs.declared.ways.Unverified.{Unverified}
+use Rattle.verify_command.specs.declared.ways.Unverified.TheVariants as reached
+use Rattle.verify_command.specs.inside.Mappings.{AreCountable, IsCountable, IsNamedIn, diagrams_fault, not_comparable_fault, unverified_fault}
 use Rattle.verify_command.specs.inside.Stages.{IsComparingFault, IsPartsFault, comparison_with}
+use Rattle.verify_command.specs.inside.Ways.{IsUnverified}
 use Rattle.verify_command.proofs.LimitLemmas.{stops_circuit, verified_circuit}
 
 -- ---- why the two are not verified
@@ -53,16 +60,35 @@ not_comparing : (order : OrderView) (q : Comparison) (why : NotComparable) → I
 not_comparing order q (reasons.Lines need) is = (refl, is.0, is.1)
 not_comparing order q (reasons.Gate gate) is = record { enough = is.0; before = gate; first = is.1; count = refl }
 
-pub comparing : (order : OrderView) (q : Comparison) (fault : VerifyFault) → HasDiagrams order.way → IsVerifyFault q order.nodes fault
-    → IsComparingFault order (comparing_fault fault) q
-comparing order q (verdicts.Diagram nodes) way is = (way, is.0, is.1, is.2)
-comparing order q (verdicts.Differs line bits) way is = (way, record { comparable = is.0; before = line; first = is.1; count = refl })
-comparing order q (verdicts.Memory _) way is = tt
+by_diagrams : (order : OrderView) (q : Comparison) (fault : VerifyFault) → HasDiagrams order.way → IsVerifyFault q order.nodes fault
+    → IsComparingFault order (diagrams_fault fault) q
+by_diagrams order q (verdicts.Diagram nodes) way is = (way, is.0, is.1, is.2)
+by_diagrams order q (verdicts.Differs line bits) way is = (way, record { comparable = is.0; before = line; first = is.1; count = refl })
+by_diagrams order q (verdicts.Memory _) way is = is
 
-pub countable : (q : Comparison) (limit : ℕ) (fault : VerifyFault) → q.circuit.lines < 2 ^ 32 → IsVerifyFault q limit fault → IsCountable fault
-countable q limit (verdicts.Diagram nodes) few is = tt
-countable q limit (verdicts.Differs line bits) few is = let low = is.1.in_range in omega arith
-countable q limit (verdicts.Memory _) few is = tt
+by_way : (order : OrderView) (way : Way) (v : ComparedView) (why : Unverified) → order.way ≡ way → IsUnverified way v order.nodes why
+    → IsComparingFault order (unverified_fault why) (comparison v)
+by_way order ways.Diagrams v (reached.Diagrams fault) is h = by_diagrams order (comparison v) fault (subst HasDiagrams (sym is) tt) h
+by_way order ways.Sums v (reached.Sums (sums.Unsettled left)) is h = (is, h.0)
+by_way order ways.Sums v (reached.Sums (sums.Memory _)) is h = h
+by_way order ways.Both v (reached.Sums (sums.Memory _)) is h = h
+by_way order ways.Both v (reached.Both left fault) is h = by_diagrams order (comparison v) fault (subst HasDiagrams (sym is) tt) h.1
+by_way order way v why is h = absurd h
+
+pub comparing : (order : OrderView) (v : ComparedView) (why : Unverified) → IsUnverified order.way v order.nodes why
+    → IsComparingFault order (unverified_fault why) (comparison v)
+comparing order v why h = by_way order order.way v why refl h
+
+one_countable : (q : Comparison) (limit : ℕ) (fault : VerifyFault) → q.circuit.lines < 2 ^ 32 → IsVerifyFault q limit fault → IsCountable fault
+one_countable q limit (verdicts.Diagram nodes) few is = tt
+one_countable q limit (verdicts.Differs line bits) few is = let low = is.1.in_range in omega arith
+one_countable q limit (verdicts.Memory _) few is = tt
+
+pub countable : (way : Way) (v : ComparedView) (limit : ℕ) (why : Unverified) → v.circuit.lines < 2 ^ 32 → IsUnverified way v limit why → AreCountable why
+countable ways.Diagrams v limit (reached.Diagrams fault) few is = one_countable (comparison v) limit fault few is
+countable ways.Both v limit (reached.Both left fault) few is = one_countable (comparison v) limit fault few is.1
+countable way v limit (reached.Sums fault) few is = tt
+countable way v limit why few is = absurd is
 
 -- ---- the comparison of a tape
 
@@ -97,7 +123,8 @@ stops_tape t s circuit order (faults.Differs number bits) is h =
     (h.0, record { comparable = said.0; before = d.before; first = said.1; count = d.count })
 stops_tape t s circuit order faults.Unsettled is h =
     (h.0, (said_of_tapes t s is circuit order.outputs order.borrow order.nodes).comparable h.1)
-stops_tape t s circuit order (faults.Memory _) is h = tt
+stops_tape t s circuit order (faults.Memory _) is h =
+    (said_of_tapes t s is circuit order.outputs order.borrow order.nodes).comparable h
 stops_tape t s circuit order fault is h = absurd h
 
 pub tape_stopped : (t : TapeView) (s : SettledView) (params : List ℕ) (circuit : CircuitView) (order : OrderView) (v : ComparedView) (fault : Fault)
@@ -160,59 +187,62 @@ texts_verified {T} {E} order program text tape graph read circuit (Err e) left m
 
 -- ---- why they are not
 
-pub text_stops : (order : OrderView) (program text : List ℕ) (fault : Fault) → length text ≤ MOST_CIRCUIT_BYTES → IsTextFault program fault
+pub text_stops : (order : OrderView) (program text : List ℕ) (fault : Fault) → length program ≤ MOST_BYTES → length text ≤ MOST_CIRCUIT_BYTES
+    → IsTextFault program fault
     → IsPartsFault order program text fault
-text_stops order program text (faults.Refused (refusals.At kind at)) short h = (short, h)
-text_stops order program text (faults.Refused refusals.TooLong) short h = absurd h
-text_stops order program text (faults.Memory _) short h = tt
-text_stops order program text fault short h = absurd h
+text_stops order program text (faults.Refused (refusals.At kind at)) few short h = (short, h)
+text_stops order program text (faults.Refused refusals.TooLong) few short h = absurd h
+text_stops order program text (faults.Memory _) few short h = (few, short)
+text_stops order program text fault few short h = absurd h
 
-pub circuit_stops : (order : OrderView) (program text : List ℕ) (tape : TapeView) (fault : Fault) → length text ≤ MOST_CIRCUIT_BYTES
-    → LeavesTape program tape → IsCircuitFault order.from text fault → IsPartsFault order program text fault
-circuit_stops order program text tape (faults.Circuit circuits.TooLong) short left h = absurd (omega (arith, h, short))
-circuit_stops order program text tape (faults.Circuit (circuits.Line number)) short left h = (tape, left, h)
-circuit_stops order program text tape (faults.Circuit (circuits.LineLimit number)) short left h = (tape, left, h)
-circuit_stops order program text tape (faults.Circuit (circuits.Token at)) short left h = (tape, left, h)
-circuit_stops order program text tape (faults.Circuit (circuits.TokenLimit at)) short left h = (tape, left, h)
-circuit_stops order program text tape (faults.Memory _) short left h = tt
-circuit_stops order program text tape fault short left h = absurd h
+pub circuit_stops : (order : OrderView) (program text : List ℕ) (tape : TapeView) (fault : Fault) → length program ≤ MOST_BYTES
+    → length text ≤ MOST_CIRCUIT_BYTES → LeavesTape program tape → IsCircuitFault order.from text fault → IsPartsFault order program text fault
+circuit_stops order program text tape (faults.Circuit circuits.TooLong) few short left h = absurd (omega (arith, h, short))
+circuit_stops order program text tape (faults.Circuit (circuits.Line number)) few short left h = (tape, left, h)
+circuit_stops order program text tape (faults.Circuit (circuits.LineLimit number)) few short left h = (tape, left, h)
+circuit_stops order program text tape (faults.Circuit (circuits.Token at)) few short left h = (tape, left, h)
+circuit_stops order program text tape (faults.Circuit (circuits.TokenLimit at)) few short left h = (tape, left, h)
+circuit_stops order program text tape (faults.Memory _) few short left h = (few, short)
+circuit_stops order program text tape fault few short left h = absurd h
 
-settling_stops : (order : OrderView) (program text : List ℕ) (read : ReadCircuit) (fault : Fault) → Means order.from text read
+settling_stops : (order : OrderView) (program text : List ℕ) (read : ReadCircuit) (fault : Fault) → length program ≤ MOST_BYTES → Means order.from text read
     → IsSettlingFault program order.nodes fault → IsPartsFault order program text fault
-settling_stops order program text read (faults.Refused refusals.TooLong) means h = h
-settling_stops order program text read (faults.Refused (refusals.At kind at)) means h = (means.short, h)
-settling_stops order program text read (faults.Claim number at bits) means h = (read, means, h)
-settling_stops order program text read (faults.Diagram number at limit) means h = (read, means, h)
-settling_stops order program text read (faults.Memory _) means h = tt
-settling_stops order program text read fault means h = absurd h
+settling_stops order program text read (faults.Refused refusals.TooLong) few means h = h
+settling_stops order program text read (faults.Refused (refusals.At kind at)) few means h = (means.short, h)
+settling_stops order program text read (faults.Claim number at bits) few means h = (read, means, h)
+settling_stops order program text read (faults.Diagram number at limit) few means h = (read, means, h)
+settling_stops order program text read (faults.Memory _) few means h = (few, means.short)
+settling_stops order program text read fault few means h = absurd h
 
-pub claims_stop : (order : OrderView) (program text : List ℕ) (tape : TapeView) (read : ReadCircuit) (fault : Fault) → LeavesTape program tape
-    → Means order.from text read → ForTexts tape (λ own. IsSettlingFault own order.nodes fault) → IsPartsFault order program text fault
-claims_stop order program text tape read fault left means h = settling_stops order program text read fault means (h.of_text program left)
+pub claims_stop : (order : OrderView) (program text : List ℕ) (tape : TapeView) (read : ReadCircuit) (fault : Fault) → length program ≤ MOST_BYTES
+    → LeavesTape program tape → Means order.from text read → ForTexts tape (λ own. IsSettlingFault own order.nodes fault)
+    → IsPartsFault order program text fault
+claims_stop order program text tape read fault few left means h = settling_stops order program text read fault few means (h.of_text program left)
 
-comparison_stops : (order : OrderView) (program text : List ℕ) (tape : TapeView) (read : ReadCircuit) (fault : Fault) → LeavesSettled program order.nodes tape
-    → Means order.from text read → IsComparingFault order fault (comparison_of order tape read) → IsPartsFault order program text fault
-comparison_stops order program text tape read (faults.FewLines lines need) settled means h =
+comparison_stops : (order : OrderView) (program text : List ℕ) (tape : TapeView) (read : ReadCircuit) (fault : Fault) → length program ≤ MOST_BYTES
+    → LeavesSettled program order.nodes tape → Means order.from text read → IsComparingFault order fault (comparison_of order tape read)
+    → IsPartsFault order program text fault
+comparison_stops order program text tape read (faults.FewLines lines need) few settled means h =
     record { tape = tape; settled = settled; read = read; means = means; holds = h }
-comparison_stops order program text tape read (faults.WideGate number) settled means h =
+comparison_stops order program text tape read (faults.WideGate number) few settled means h =
     record { tape = tape; settled = settled; read = read; means = means; holds = h }
-comparison_stops order program text tape read (faults.CircuitDiagram limit) settled means h =
+comparison_stops order program text tape read (faults.CircuitDiagram limit) few settled means h =
     record { tape = tape; settled = settled; read = read; means = means; holds = h }
-comparison_stops order program text tape read (faults.Differs number bits) settled means h =
+comparison_stops order program text tape read (faults.Differs number bits) few settled means h =
     record { tape = tape; settled = settled; read = read; means = means; holds = h }
-comparison_stops order program text tape read faults.Unsettled settled means h =
+comparison_stops order program text tape read faults.Unsettled few settled means h =
     record { tape = tape; settled = settled; read = read; means = means; holds = h }
-comparison_stops order program text tape read (faults.Memory _) settled means h = tt
-comparison_stops order program text tape read fault settled means h = absurd h
+comparison_stops order program text tape read (faults.Memory _) few settled means h = (few, means.short)
+comparison_stops order program text tape read fault few settled means h = absurd h
 
 pub texts_stop : {T : Type 0} (order : OrderView) (program text : List ℕ) (tape : TapeView) (graph : SettledView) (read : ReadCircuit)
-    (circuit : CircuitView) (r : Result T Fault) → LeavesTape program tape → Means order.from text read → IsSettledWithin tape order.nodes graph
-    → circuit.lines ≡ line_count read → circuit.gates ≡ read.gates
+    (circuit : CircuitView) (r : Result T Fault) → length program ≤ MOST_BYTES → LeavesTape program tape → Means order.from text read
+    → IsSettledWithin tape order.nodes graph → circuit.lines ≡ line_count read → circuit.gates ≡ read.gates
     → IfErr r (λ fault. IsComparingFault order fault (comparison_with order tape circuit))
     → IfErr r (IsPartsFault order program text)
-texts_stop {T} order program text tape graph read circuit (Ok x) left means within lines gates h = tt
-texts_stop {T} order program text tape graph read circuit (Err fault) left means within lines gates h =
-    comparison_stops order program text tape read fault (record { left = left; hold = within.hold }) means
+texts_stop {T} order program text tape graph read circuit (Ok x) few left means within lines gates h = tt
+texts_stop {T} order program text tape graph read circuit (Err fault) few left means within lines gates h =
+    comparison_stops order program text tape read fault few (record { left = left; hold = within.hold }) means
     (stops_circuit (of_tape tape) circuit (line_count read) (length read.gates) read.gates order.outputs order.borrow order fault lines gates h)
 
 -- ---- a source
@@ -225,7 +255,8 @@ source_verified {T} {E} order source program circuit (Err e) short parted h = tt
 
 source_stops : (order : OrderView) (source program circuit : List ℕ) (fault : Fault) → length source ≤ MOST_SOURCE_BYTES → IsParted source program circuit
     → IsPartsFault order program circuit fault → IsVerifyingFault order source fault
-source_stops order source program circuit (faults.Memory _) short parted h = tt
+source_stops order source program circuit (faults.Memory _) short parted h =
+    record { short = short; program = program; circuit = circuit; parted = parted; holds = h }
 source_stops order source program circuit faults.NoPart short parted h = absurd h.holds
 source_stops order source program circuit (faults.Circuit circuits.TooLong) short parted h =
     inr (record { short = short; program = program; circuit = circuit; parted = parted; holds = h })

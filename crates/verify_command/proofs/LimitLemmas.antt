@@ -52,6 +52,7 @@ module _ (program : Specification) (lines limit other : ℕ) (gates : List GateV
   )
   stops_same order (faults.Differs number bits) h = (h.0, differs_same number bits h.1)
   stops_same order faults.Unsettled h = (h.0, comparable_same h.1)
+  stops_same order (faults.Memory _) h = comparable_same h
   stops_same order fault h = h
 
 -- the same of a circuit with these lines and gates

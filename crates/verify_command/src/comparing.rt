@@ -4,19 +4,20 @@ ghost use Rattle.circuit_verify.specs.Compared.{IsReady, comparison};
 ghost use Rattle.circuit_verify.specs.Verdicts.{IsVerified};
 ghost use Rattle.claim_check.specs.Settled.{IsSettledOf};
 ghost use Rattle.revc_words.specs.Words.{IsWithinLimits, order_of};
-ghost use Rattle.verify_command.specs.Verify.{HasDiagrams};
-ghost use Rattle.verify_command.specs.inside.Mappings.{IsCountable, IsNamedIn, comparing_fault};
-ghost use Rattle.verify_command.specs.inside.Mappings.{not_comparable_fault};
+ghost use Rattle.verify_command.specs.inside.Mappings.{AreCountable, IsCountable, IsNamedIn};
+ghost use Rattle.verify_command.specs.inside.Mappings.{diagrams_fault, not_comparable_fault};
+ghost use Rattle.verify_command.specs.inside.Mappings.{sums_fault, unverified_fault};
 ghost use Rattle.verify_command.specs.inside.Stages.{IsComparingFault, comparison_with};
 
-use crate::sums::agrees_by_sums;
-use circuit_verify::{Compared, NotComparable, VerifyFault, verify};
+use crate::ways::{Unverified, compare_by_way};
+use circuit_verify::{Compared, NotComparable, VerifyFault};
 use claim_check::Settled;
 use command_answers::Fault;
 use mct_circuit::Circuit;
-use revc_words::{Order, Way};
+use revc_words::Order;
 use revs_tape::Tape;
 use std::alloc::Global;
+use sum_verify::SumsFault;
 
 /// Compares a circuit with a tape, whose settled graph is given, by the way of the order. A fault
 /// is exactly that of the comparison, or want of memory, or that sums alone leave it unsettled.
@@ -37,50 +38,22 @@ pub fn compare(
     let values = order.values;
     let (start, borrow) = (values.outputs, values.borrow);
     match Compared::of(graph, tape.params(), circuit, start, borrow) {
-        Ok(compared) => by_way(alloc, &compared, order),
+        Ok(compared) => compare_ready(alloc, compared, order),
         Err(why) => Err(not_comparable_fault(circuit, why)),
     }
 }
 
-// Compares the two by the way of the order.
-fn by_way(alloc: Global, compared: &Compared, order: &Order) -> Result<(), Fault>
-    requires ready { IsReady compared.now }
+// Compares two that can be compared.
+fn compare_ready(alloc: Global, compared: Compared<'_>, order: &Order) -> Result<(), Fault>
+    requires ready { IsReady compared }
     requires limits { IsWithinLimits (order_of order.now) }
-    ensures ok { OnOk result (IsVerified (comparison compared.now)) }
+    ensures ok { OnOk result (IsVerified (comparison compared.entry)) }
     ensures err { IfErr result (λ fault.
-        IsComparingFault (order_of order.now) fault (comparison compared.now)) }
+        IsComparingFault (order_of order.now) fault (comparison compared.entry)) }
 {
-    match order.values.way {
-        Way::Diagrams => by_diagrams(alloc, compared, order),
-        Way::Sums => {
-            if agrees_by_sums(alloc, compared)? {
-                Ok(())
-            } else {
-                Err(Fault::Unsettled)
-            }
-        }
-        Way::Both => {
-            if agrees_by_sums(alloc, compared)? {
-                Ok(())
-            } else {
-                by_diagrams(alloc, compared, order)
-            }
-        }
-    }
-}
-
-// Compares the two by decision diagrams.
-fn by_diagrams(alloc: Global, compared: &Compared, order: &Order) -> Result<(), Fault>
-    requires ready { IsReady compared.now }
-    requires limits { IsWithinLimits (order_of order.now) }
-    requires way { HasDiagrams (order_of order.now).way }
-    ensures ok { OnOk result (IsVerified (comparison compared.now)) }
-    ensures err { IfErr result (λ fault.
-        IsComparingFault (order_of order.now) fault (comparison compared.now)) }
-{
-    match verify(alloc, compared, order.values.nodes) {
+    match compare_by_way(alloc, compared, order) {
         Ok(()) => Ok(()),
-        Err(fault) => Err(comparing_fault(fault)),
+        Err(why) => Err(unverified_fault(why)),
     }
 }
 
@@ -98,10 +71,22 @@ fn not_comparable_fault(circuit: &Circuit, why: NotComparable) -> Fault
     }
 }
 
-// The fault of the command for a fault of the comparison.
-fn comparing_fault(fault: VerifyFault) -> Fault
+// The fault of the command where the circuit is not verified.
+fn unverified_fault(why: Unverified<'_>) -> Fault
+    requires { AreCountable why }
+    ensures { result ≡ unverified_fault why.entry }
+{
+    match why {
+        Unverified::Diagrams(fault) => diagrams_fault(fault),
+        Unverified::Sums(fault) => sums_fault(fault),
+        Unverified::Both(_, fault) => diagrams_fault(fault),
+    }
+}
+
+// The fault of the command where diagrams do not verify the circuit.
+fn diagrams_fault(fault: VerifyFault) -> Fault
     requires { IsCountable fault }
-    ensures { result ≡ comparing_fault fault }
+    ensures { result ≡ diagrams_fault fault }
 {
     match fault {
         VerifyFault::Diagram { nodes } => Fault::CircuitDiagram { limit: nodes },
@@ -110,5 +95,15 @@ fn comparing_fault(fault: VerifyFault) -> Fault
             bits,
         },
         VerifyFault::Memory(memory) => Fault::Memory(memory),
+    }
+}
+
+// The fault of the command where sums do not verify the circuit.
+fn sums_fault(fault: SumsFault<'_>) -> Fault
+    ensures { result ≡ sums_fault fault.entry }
+{
+    match fault {
+        SumsFault::Unsettled(_) => Fault::Unsettled,
+        SumsFault::Memory(memory) => Fault::Memory(memory),
     }
 }

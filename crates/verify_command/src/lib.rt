@@ -4,8 +4,8 @@
 mod comparing;
 mod limits;
 mod parting;
-mod sums;
 pub mod verify;
+mod ways;
 
 pub use limits::{MOST_SOURCE_BYTES, limits_are};
 pub use parting::{part, sources_part_in_one_way};

@@ -1,3 +1,4 @@
+// The limit of a source with a program and a circuit.
 ghost use Rattle.verify_command.specs.Limits.{LimitsAre};
 
 /// The most bytes of a source with a program and a circuit: as many as both parts may have, and

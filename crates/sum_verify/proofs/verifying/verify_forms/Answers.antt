@@ -9,7 +9,7 @@ use Rattle.circuit_verify.specs.Comparisons.{input_bits, start_on}
 use Rattle.sum_verify.specs.inside.Forms.{AreFormsOf}
 use Rattle.sum_verify.proofs.FormLemmas.{forms_later}
 use Rattle.sum_verify.proofs.StartLemmas.{starts_stand}
-use Rattle.sum_verify.proofs.verifying.verify.Goals as goal
+use Rattle.sum_verify.proofs.verifying.verify_forms.Goals as goal
 
 pub output_forms-requires-clause-lines : goal.output_forms-requires-clause-lines
 output_forms-requires-clause-lines c =
