@@ -223,13 +223,16 @@ impl<'i> Values<'i> {
 // How often each item is read, by items and by outputs.
 fn uses_of(work: &mut Work, items: &Items) -> Table<u32> {
     let mut uses = Table::new(work, items.list.len(), 0);
-    for reads in &items.reads {
-        count(reads, 0, &mut uses);
-    }
-    for marks in &items.outputs {
-        count(marks, items.inputs, &mut uses);
-    }
+    count_all(&items.reads, 0, &mut uses);
+    count_all(&items.outputs, items.inputs, &mut uses);
     uses
+}
+
+// Counts the items in lists of marks, where so many inputs stand before them.
+fn count_all(lists: &[Vec<u32>], inputs: u32, uses: &mut Table<u32>) {
+    for marks in lists {
+        count(marks, inputs, uses);
+    }
 }
 
 fn count(marks: &[u32], inputs: u32, uses: &mut Table<u32>) {

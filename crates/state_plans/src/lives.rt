@@ -27,12 +27,12 @@ struct Life {
     line: u32,
 }
 
-// A line that may be taken up to one moment, from another one on.
+// A line that may be taken from one moment on, up to another one.
 #[derive(Clone, Copy, PartialEq, Eq, PartialOrd, Ord)]
 struct Span {
+    from: u32,
     to: u32,
     line: u32,
-    from: u32,
 }
 
 impl Life {
@@ -57,7 +57,8 @@ impl Lines {
 
     /// Lines for the rows of a sweep. Each takes one that is free over its whole life: a row of the
     /// state an output's line before its output begins there, then any an input's line behind the
-    /// end of its first row, then a work line, of these the one that is free for the longest.
+    /// end of its first row, then a work line, of these the one that is free for the longest. It
+    /// takes time near linear in the steps and rows.
     pub fn of(work: &mut Work, graph: &StateGraph, sweep: &Sweep) -> Lines {
         let mut lines = Lines {
             rows: Table::new(work, sweep.rows as usize, Life::NONE),
@@ -157,8 +158,7 @@ struct Free {
     /// The lines of outputs, and the work lines, by the moments from which they are free.
     outputs: BTreeSet<(u32, u32)>,
     work: BTreeSet<(u32, u32)>,
-    /// The lines of inputs, by the moments up to which they are free.
-    inputs: Vec<Span>,
+    inputs: InputLines,
     /// How many lines of inputs and outputs there are.
     ports: u32,
     /// The line behind the work lines.
@@ -172,7 +172,7 @@ impl Free {
         Free {
             outputs: outputs_of(work, graph, &begins),
             work: BTreeSet::new(work.alloc),
-            inputs: inputs_of(work, sweep, lines),
+            inputs: InputLines::of(work, sweep, lines),
             ports,
             next: ports,
         }
@@ -185,7 +185,7 @@ impl Free {
         {
             return line;
         }
-        if let Some(line) = self.take_input(life) {
+        if let Some(line) = self.inputs.take(work, life) {
             return line;
         }
         if let Some(line) = take_from(work, &mut self.work, life) {
@@ -196,15 +196,55 @@ impl Free {
         self.next = line.saturating_add(1);
         line
     }
+}
 
-    fn take_input(&mut self, life: Life) -> Option<u32> {
-        for span in self.inputs.iter_mut() {
-            if span.from <= life.from && life.to <= span.to {
-                span.from = life.to;
-                return Some(span.line);
+// The lines of inputs behind the ends of their first rows.
+#[derive(Drop)]
+struct InputLines {
+    /// Those that are free, by the moments up to which they are.
+    free: BTreeSet<(u32, u32)>,
+    /// Those that are free later on.
+    later: BTreeSet<Span>,
+}
+
+impl InputLines {
+    fn of(work: &mut Work, sweep: &Sweep, lines: &Lines) -> InputLines {
+        let mut free = BTreeSet::new(work.alloc);
+        for first in &sweep.firsts {
+            let life = lines.rows.get(first.row);
+            if life.from > 0 {
+                work.note(free.insert((life.from, life.line)));
             }
         }
-        None
+        InputLines {
+            free,
+            later: BTreeSet::new(work.alloc),
+        }
+    }
+
+    // Takes the line that is free for the shortest time of those that are free over a life. The
+    // moments at which lives come rise.
+    fn take(&mut self, work: &mut Work, life: Life) -> Option<u32> {
+        self.pass(work, life.from);
+        let (to, line) = *self.free.range((life.to, 0)..).next()?;
+        let _ = self.free.remove(&(to, line));
+        let from = life.to;
+        work.note(self.later.insert(Span { from, to, line }));
+        Some(line)
+    }
+
+    // At a moment: those that are free from there on.
+    fn pass(&mut self, work: &mut Work, moment: u32) {
+        for _ in 0..self.later.len() {
+            let Some(span) = self.later.pop_first() else {
+                return;
+            };
+            if span.from > moment {
+                work.note(self.later.insert(span));
+                return;
+            }
+            work.note(self.free.insert((span.to, span.line)));
+        }
     }
 }
 
@@ -237,22 +277,4 @@ fn outputs_of(work: &mut Work, graph: &StateGraph, begins: &Table<u32>) -> BTree
         line = line.saturating_add(1);
     }
     outputs
-}
-
-// The lines of inputs behind the ends of their first rows, those first that are free the shortest.
-fn inputs_of(work: &mut Work, sweep: &Sweep, lines: &Lines) -> Vec<Span> {
-    let mut spans = Vec::new(work.alloc);
-    for first in &sweep.firsts {
-        let life = lines.rows.get(first.row);
-        if life.from > 0 {
-            let span = Span {
-                to: life.from,
-                line: life.line,
-                from: 0,
-            };
-            work.push(&mut spans, span);
-        }
-    }
-    spans.sort_unstable();
-    spans
 }

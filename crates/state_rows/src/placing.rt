@@ -133,7 +133,7 @@ impl StateRows {
     /// it is not. Where it is the sum of several rows and shorter than the one that has its head,
     /// it takes that row's place.
     pub fn insert(&mut self, work: &mut Work, vector: &[u32]) -> bool {
-        let Reduced { left, rows } = self.reduced(work, vector, Layer::Beneath);
+        let Reduced { left, rows } = self.reduce(work, vector, Layer::Beneath);
         if left.is_empty() {
             self.exchange(work, vector, &rows);
             return false;

@@ -75,7 +75,7 @@ impl StateRows {
     }
 
     /// How many rows were made.
-    pub fn made(&self) -> u32 {
+    pub fn count(&self) -> u32 {
         self.next
     }
 
@@ -115,7 +115,7 @@ impl StateRows {
     }
 
     /// Adds rows that a layer may read to a vector until its greatest symbol is no such row's head.
-    pub fn reduced(&self, work: &mut Work, vector: &[u32], layer: Layer) -> Reduced {
+    pub fn reduce(&self, work: &mut Work, vector: &[u32], layer: Layer) -> Reduced {
         let mut left = work.copy(vector);
         let mut rows = Vec::new(work.alloc);
         for _ in 0..self.symbols() {
@@ -132,12 +132,12 @@ impl StateRows {
 
     /// Whether a vector is in the span of the rows that a layer may read.
     pub fn spans(&self, work: &mut Work, vector: &[u32], layer: Layer) -> bool {
-        self.reduced(work, vector, layer).left.is_empty()
+        self.reduce(work, vector, layer).left.is_empty()
     }
 
     /// The rows that sum to a vector. The work gives up where it is not in their span.
     pub fn rows_of(&self, work: &mut Work, vector: &[u32], layer: Layer) -> Vec<Row> {
-        let Reduced { left, rows } = self.reduced(work, vector, layer);
+        let Reduced { left, rows } = self.reduce(work, vector, layer);
         if !left.is_empty() {
             work.give_up();
         }

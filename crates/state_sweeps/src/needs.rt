@@ -125,12 +125,7 @@ impl Sweeper<'_> {
 
     // Of each node below a place, whether it is wanted for a row beneath.
     fn wanted_beneath(&mut self, behind: u32) -> Table<bool> {
-        let mut wanted = Table::new(&mut self.work, behind as usize, false);
-        for symbol in 0..self.behind {
-            if let Some(row) = self.rows.in_layer(symbol, Layer::Beneath) {
-                self.mark_places(self.rows.vector(row), &mut wanted);
-            }
-        }
+        let mut wanted = self.wanted_by_rows(behind);
         for place in (0..behind).rev() {
             if let Some(node) = self.graph.node(place)
                 && wanted.get(place)
@@ -139,6 +134,17 @@ impl Sweeper<'_> {
             }
         }
         self.work.spend(behind as u64);
+        wanted
+    }
+
+    // Of each node below a place, whether a row beneath has its symbol.
+    fn wanted_by_rows(&mut self, behind: u32) -> Table<bool> {
+        let mut wanted = Table::new(&mut self.work, behind as usize, false);
+        for symbol in 0..self.behind {
+            if let Some(row) = self.rows.in_layer(symbol, Layer::Beneath) {
+                self.mark_places(self.rows.vector(row), &mut wanted);
+            }
+        }
         wanted
     }
 

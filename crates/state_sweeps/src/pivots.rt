@@ -24,11 +24,7 @@ pub struct Pivots {
 impl ByWeight {
     /// The symbols of a graph.
     pub fn of(work: &mut Work, graph: &StateGraph) -> ByWeight {
-        let mut keys = Vec::new(work.alloc);
-        for symbol in 0..number(graph.symbols()) {
-            work.push(&mut keys, (graph.weights.get(symbol), symbol));
-        }
-        keys.sort_unstable();
+        let keys = keys_of(work, graph);
         let mut symbols = Vec::new(work.alloc);
         let mut ranks = Table::new(work, keys.len(), 0);
         for (_, symbol) in &keys {
@@ -103,4 +99,14 @@ impl Pivots {
         let row = self.rows.fresh(work);
         self.rows.put(work, row, reduced.left);
     }
+}
+
+// The symbols of a graph with their weights, the least first.
+fn keys_of(work: &mut Work, graph: &StateGraph) -> Vec<(u32, u32)> {
+    let mut keys = Vec::new(work.alloc);
+    for symbol in 0..number(graph.symbols()) {
+        work.push(&mut keys, (graph.weights.get(symbol), symbol));
+    }
+    keys.sort_unstable();
+    keys
 }

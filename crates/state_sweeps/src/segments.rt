@@ -104,7 +104,7 @@ impl Sweeper<'_> {
 
     // Whether what the state does not know of a vector lies before a range.
     fn is_before(&mut self, vector: &[u32], range: Range) -> bool {
-        let reduced = self.rows.reduced(&mut self.work, vector, Layer::State);
+        let reduced = self.rows.reduce(&mut self.work, vector, Layer::State);
         match reduced.left.first() {
             Some(symbol) => *symbol < self.graph.symbol(range.from),
             None => true,
@@ -121,14 +121,18 @@ impl Sweeper<'_> {
                 return false;
             }
         }
-        let first = self.graph.symbol(range.from);
+        self.drop_requests_below(self.graph.symbol(range.from));
+        true
+    }
+
+    // Forgets requests for vectors of symbols below one.
+    fn drop_requests_below(&mut self, first: u32) {
         let requests = self.work.take(&mut self.requests);
         for request in requests {
             if request.first().is_some_and(|symbol| *symbol >= first) {
                 self.work.push(&mut self.requests, request);
             }
         }
-        true
     }
 
     /// How many nodes there are.

@@ -177,7 +177,7 @@ impl Sweeper<'_> {
 
     // Places what the line of a node that goes off held: the node itself, if its bits are few rows.
     fn place_ended(&mut self, node: &StateNode, row: Row, layer: Layer) {
-        let bits = self.rows.reduced(&mut self.work, &node.bits, layer);
+        let bits = self.rows.reduce(&mut self.work, &node.bits, layer);
         let mut vector = self.work.copy(&node.event);
         if bits.left.is_empty() && bits.rows.len() <= MOST_BITS {
             self.rows.add_all(&mut self.work, &bits.rows, row);
@@ -198,7 +198,7 @@ impl Sweeper<'_> {
         self.want(&node.second, layer);
         self.push_toggle(place, node, row, layer);
         let held = self.work.sum_of(&vector, &node.event);
-        let reduced = self.rows.reduced(&mut self.work, &held, layer);
+        let reduced = self.rows.reduce(&mut self.work, &held, layer);
         if reduced.left.is_empty() {
             self.rows.add_all(&mut self.work, &reduced.rows, row);
             self.rows.push(&mut self.work, Step::Begin(row));

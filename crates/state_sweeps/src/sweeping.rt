@@ -69,7 +69,7 @@ impl Sweeper<'_> {
         Sweep {
             firsts: self.firsts(),
             steps: self.work.take(&mut self.rows.steps),
-            rows: self.rows.made(),
+            rows: self.rows.count(),
             ends,
             toffoli: self.counts.toffoli,
             is_clean: self.counts.is_clean,
