@@ -2,10 +2,10 @@
 use crate::lives::Lines;
 use crate::replaying::moves_of;
 use line_moves::Moves;
-use plan_tools::{Limits, Stop, Work, number};
+use plan_tools::{Limits, Size, Stop, Work, number};
 use state_graphs::StateGraph;
 use state_lowering::lower;
-use state_sweeps::{Sweep, sweep_over};
+use state_sweeps::{Sweep, Way, sweep_over};
 use std::alloc::Global;
 use sum_graph::SumGraph;
 
@@ -14,15 +14,29 @@ const MOST_WORK: u64 = 300_000_000;
 
 const MOST_SWEPT: u64 = 80_000_000;
 
-/// How many numbers of cleaned nodes are tried between none and all.
-const TURNS: usize = 4;
+/// How many numbers of cleaned nodes are tried between none and all, and of how much work.
+const TURNS: usize = 6;
+
+const MOST_BETWEEN: u64 = 100_000_000;
+
+/// Numbers between are tried where the lines that are left are more than this part of the Toffoli
+/// gates: a line is worth a gate or two.
+const PER_LINE: u64 = 512;
+
+/// By more than how many symbols a vector is to be shorter than a row to take its head; and the
+/// most work of a sweep that is done once more without such a margin, which mostly gives fewer
+/// gates.
+const MARGIN: usize = 2;
+
+const MOST_ONCE_MORE: u64 = 10_000_000;
 
 /// Moves for a graph of sums each of whose nodes has at most one product, and whose outputs have
 /// none. The output lines begin as 0.
 ///
-/// Of the plans that were found within the lines it is that of the fewest Toffoli gates, then lines
-/// times steps, then lines. Two orders of the nodes are tried; in each all segments are cleaned; if
-/// that fits, none; and if that does not, numbers of cleaned nodes between.
+/// Of the plans that were found within the lines it is the best by its `Size`. No node is cleaned
+/// beneath; if that does not fit, all are; if that does, numbers of cleaned nodes between are
+/// tried. That is done for two orders of the nodes; the second one not where the first took too
+/// much work, or had no node beneath.
 ///
 /// # Errors
 ///
@@ -38,10 +52,13 @@ pub fn plan(alloc: Global, graph: &SumGraph, limits: Limits) -> Result<Moves, St
         ports,
         room,
         left: MOST_WORK,
+        is_over: false,
         best: None,
     };
     search.search(graph, false)?;
-    search.search(graph, true)?;
+    if !search.is_over {
+        search.search(graph, true)?;
+    }
     match &search.best {
         Some(Candidate { graph, swept }) => moves_of(alloc, graph, &swept.sweep, &swept.lines),
         None => Err(Stop::GaveUp),
@@ -58,14 +75,18 @@ struct Search {
     room: u32,
     /// The units of work that are left.
     left: u64,
+    /// Whether no other order is to be tried.
+    is_over: bool,
     best: Option<Candidate>,
 }
 
-// A sweep, and the lines of its rows.
+// A sweep, the lines of its rows, and how it was found.
 #[derive(Drop)]
 struct Swept {
     sweep: Sweep,
     lines: Lines,
+    cleaned: u32,
+    work: u64,
 }
 
 // A graph, and the best sweep of it.
@@ -76,15 +97,9 @@ struct Candidate {
 }
 
 impl Swept {
-    // By its Toffoli gates, then by lines times steps, then by lines.
-    fn size(&self, ports: u32) -> (u64, u64, u32) {
+    fn size(&self, ports: u32) -> Size {
         let lines = ports.saturating_add(self.lines.work);
-        let steps = self.sweep.steps.len() as u64;
-        (
-            self.sweep.toffoli,
-            steps.saturating_mul(lines as u64),
-            lines,
-        )
+        Size::new(self.sweep.toffoli, lines, self.sweep.gates)
     }
 }
 
@@ -96,6 +111,7 @@ impl Search {
             lowered => lowered?,
         };
         if let Some(swept) = self.best_sweep(&lowered)? {
+            let swept = self.once_more(&lowered, swept)?;
             self.best = Some(Candidate {
                 graph: lowered,
                 swept,
@@ -112,21 +128,31 @@ impl Search {
         }
     }
 
-    // The best sweep of a graph that fits. Where it is no better than another graph's with all
-    // segments cleaned, no other number of them is tried.
+    // The best sweep of a graph that fits, if it is better than that of the other one. If that has
+    // no node cleaned, none is cleaned here.
     fn best_sweep(&mut self, graph: &StateGraph) -> Result<Option<Swept>, Stop> {
-        let Some(clean) = self.swept(graph, u32::MAX)? else {
-            return Ok(None);
-        };
-        if !self.fits(&clean) || !self.is_better(&clean) {
+        if let Some(kept) = self.swept(graph, 0, MARGIN)? {
+            self.is_over |= !kept.sweep.has_beneath;
+            return Ok(if self.is_better(&kept) {
+                Some(kept)
+            } else {
+                None
+            });
+        }
+        if self.is_over || self.is_kept() {
             return Ok(None);
         }
-        if !clean.sweep.is_clean {
-            return Ok(Some(clean));
+        match self.swept(graph, u32::MAX, MARGIN)? {
+            Some(clean) if self.is_better(&clean) => Ok(Some(self.between(graph, clean)?)),
+            _ => Ok(None),
         }
-        match self.swept(graph, 0)? {
-            Some(kept) if self.fits(&kept) => Ok(Some(kept)),
-            _ => Ok(Some(self.between(graph, clean)?)),
+    }
+
+    // Whether the best sweep so far has no node cleaned.
+    fn is_kept(&self) -> bool {
+        match &self.best {
+            Some(best) => best.swept.sweep.cleaned == 0,
+            None => false,
         }
     }
 
@@ -134,41 +160,134 @@ impl Search {
     // and not with none.
     fn between(&mut self, graph: &StateGraph, clean: Swept) -> Result<Swept, Stop> {
         let mut best = clean;
-        let (mut fits, mut fails) = (number(graph.nodes.len()), 0u32);
+        let mut bracket = Bracket::of(best.sweep.cleaned, best.lines.work);
+        let enough = self.left.saturating_sub(MOST_BETWEEN);
         for _ in 0..TURNS {
-            let middle = fails.saturating_add(fits.saturating_sub(fails) / 2);
-            match self.swept(graph, middle)? {
-                Some(found) if self.fits(&found) => {
-                    fits = middle;
+            let slack = self.room.saturating_sub(bracket.lines) as u64;
+            if slack.saturating_mul(PER_LINE) < best.sweep.toffoli || self.left < enough {
+                break;
+            }
+            let cleaned = bracket.next(slack);
+            match self.swept(graph, cleaned, MARGIN)? {
+                Some(found) => {
+                    bracket.fit(cleaned, found.lines.work);
                     if found.size(self.ports) < best.size(self.ports) {
                         best = found;
                     }
                 }
-                _ => fails = middle,
+                None => bracket.fails = cleaned,
             }
         }
         Ok(best)
     }
 
-    fn fits(&self, swept: &Swept) -> bool {
-        swept.lines.work <= self.room
+    // A sweep that took little work, or the same without a margin where that is better.
+    fn once_more(&mut self, graph: &StateGraph, swept: Swept) -> Result<Swept, Stop> {
+        if swept.work > MOST_ONCE_MORE {
+            return Ok(swept);
+        }
+        let is_over = self.is_over;
+        let found = self.swept(graph, swept.cleaned, 0)?;
+        self.is_over = is_over;
+        match found {
+            Some(found) if found.size(self.ports) < swept.size(self.ports) => Ok(found),
+            _ => Ok(swept),
+        }
     }
 
-    // A sweep with so many nodes cleaned, if its work is not too much.
-    fn swept(&mut self, graph: &StateGraph, cleaned: u32) -> Result<Option<Swept>, Stop> {
-        let most = self.left.min(MOST_SWEPT);
-        match sweep_over(Work::new(self.alloc, most), graph, cleaned) {
-            Err(Stop::GaveUp) => {
-                self.left = self.left.saturating_sub(most);
-                Ok(None)
-            }
-            swept => {
-                let sweep = swept?;
-                self.left = self.left.saturating_sub(sweep.work);
-                let mut work = Work::new(self.alloc, u64::MAX);
-                let lines = Lines::of(&mut work, graph, &sweep);
-                Ok(Some(work.finish(Swept { sweep, lines })?))
-            }
+    // How a sweep goes with so many nodes cleaned.
+    fn way(&self, cleaned: u32, margin: usize) -> Way {
+        let toffoli = match &self.best {
+            Some(best) => best.swept.sweep.toffoli,
+            None => u64::MAX,
+        };
+        Way {
+            cleaned,
+            margin,
+            rows: self.ports.saturating_add(self.room),
+            toffoli,
         }
+    }
+
+    // A sweep with so many nodes cleaned, if its work is not too much, and it fits.
+    fn swept(
+        &mut self,
+        graph: &StateGraph,
+        cleaned: u32,
+        margin: usize,
+    ) -> Result<Option<Swept>, Stop> {
+        let mut work = Work::new(self.alloc, self.left.min(MOST_SWEPT));
+        let found = sweep_over(&mut work, graph, self.way(cleaned, margin));
+        self.left = self.left.saturating_sub(work.spent());
+        let sweep = match found {
+            Err(Stop::GaveUp) => {
+                self.is_over |= cleaned > 0 || graph.starts.len() < 2;
+                return Ok(None);
+            }
+            found => found?,
+        };
+        let Some(sweep) = sweep else {
+            return Ok(None);
+        };
+        let lines = self.lines_of(graph, &sweep)?;
+        if lines.work > self.room {
+            return Ok(None);
+        }
+        Ok(Some(Swept {
+            sweep,
+            lines,
+            cleaned,
+            work: work.spent(),
+        }))
+    }
+
+    fn lines_of(&self, graph: &StateGraph, sweep: &Sweep) -> Result<Lines, Stop> {
+        let mut work = Work::new(self.alloc, 0);
+        let lines = Lines::of(&mut work, graph, sweep);
+        work.finish(lines)
+    }
+}
+
+// Numbers of cleaned nodes, between which the one is that is sought.
+#[derive(Clone, Copy)]
+struct Bracket {
+    /// With so many it fits, on so many work lines.
+    fits: u32,
+    lines: u32,
+    /// With so many it does not.
+    fails: u32,
+    /// How many nodes more the try before had cleaned, and how many lines less it took.
+    nodes: u64,
+    gained: u64,
+}
+
+impl Bracket {
+    // Between so many, with which it fits, and none. At first three nodes are taken for two lines.
+    fn of(fits: u32, lines: u32) -> Bracket {
+        Bracket {
+            fits,
+            lines,
+            fails: 0,
+            nodes: 3,
+            gained: 2,
+        }
+    }
+
+    // The number that is tried next: as many less as fill the lines that are left, as far as the
+    // last ones tell; or the middle.
+    fn next(self, slack: u64) -> u32 {
+        let most = self.fits.saturating_sub(self.fails);
+        match slack.saturating_mul(self.nodes).checked_div(self.gained) {
+            Some(less) if less < most as u64 => self.fits.saturating_sub(less as u32),
+            _ => self.fits.saturating_sub(most / 2),
+        }
+    }
+
+    // Notes that it fits with so many, on so many work lines.
+    fn fit(&mut self, cleaned: u32, lines: u32) {
+        self.nodes = self.fits.saturating_sub(cleaned) as u64;
+        self.gained = (lines.saturating_sub(self.lines) as u64).max(1);
+        self.fits = cleaned;
+        self.lines = lines;
     }
 }

@@ -3,9 +3,6 @@ use crate::rows::{Layer, StateRows, Step};
 use plan_tools::{Reduced, Row, Work};
 use std::mem;
 
-/// By how many symbols a vector is to be shorter than the row with its head to take that head.
-const SHORTER: usize = 2;
-
 /// How a vector is placed as a row.
 #[derive(Clone, Copy, PartialEq, Eq)]
 pub enum Place {
@@ -37,7 +34,7 @@ impl Placing {
 impl StateRows {
     /// Places a vector as a row. Where a row has its head, one beneath has it before one of the
     /// state; of two in one layer the new one takes it where it is `First`, or shorter by more than
-    /// two symbols. A row of the state that is left with nothing begins there.
+    /// the margin. A row of the state that is left with nothing begins there.
     pub fn place(&mut self, work: &mut Work, row: Row, vector: Vec<u32>, how: Place) {
         let mut placing = Placing {
             vector,
@@ -74,7 +71,7 @@ impl StateRows {
         if self.layer(placing.to) != self.layer(rival) {
             return self.layer(placing.to) == Layer::Beneath;
         }
-        let length = placing.vector.len().saturating_add(SHORTER);
+        let length = placing.vector.len().saturating_add(self.margin);
         placing.is(placing.to, Place::First) || length < self.vector(rival).len()
     }
 

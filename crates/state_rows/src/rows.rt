@@ -55,6 +55,9 @@ pub struct StateRows {
     pub(crate) echelon: Echelon,
     /// Of each row its layer.
     layers: Table<Layer>,
+    /// By more than how many symbols a vector is to be shorter than the row with its head to take
+    /// that head.
+    pub(crate) margin: usize,
     /// The row behind those that were made.
     next: Row,
     /// The changes of rows since the last call of `mark`.
@@ -63,9 +66,11 @@ pub struct StateRows {
 }
 
 impl StateRows {
-    /// No rows, over so many symbols.
-    pub fn new(work: &mut Work, symbols: usize) -> StateRows {
+    /// No rows, over so many symbols. A vector takes the head of a row that is longer by more than
+    /// the margin.
+    pub fn new(work: &mut Work, symbols: usize, margin: usize) -> StateRows {
         StateRows {
+            margin,
             echelon: Echelon::new(work, symbols),
             layers: Table::of(Vec::new(work.alloc), Layer::State),
             next: 0,
@@ -77,6 +82,11 @@ impl StateRows {
     /// How many rows were made.
     pub fn count(&self) -> u32 {
         self.next
+    }
+
+    /// How many rows have a vector: each of them has a line of its own.
+    pub fn rank(&self) -> u32 {
+        self.echelon.rank()
     }
 
     /// How many symbols there are.

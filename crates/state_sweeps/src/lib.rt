@@ -9,4 +9,4 @@ mod segments;
 mod sweeper;
 mod sweeping;
 
-pub use sweeping::{End, First, Sweep, sweep_over};
+pub use sweeping::{End, First, Sweep, Way, sweep_over};

@@ -19,8 +19,10 @@ pub struct Counts {
     pub kept: u32,
     /// The Toffoli gates of its plan.
     pub toffoli: u64,
-    /// Whether a node went off beneath.
-    pub is_clean: bool,
+    /// Whether a node is made beneath.
+    pub has_beneath: bool,
+    /// The place behind the last node that went off beneath.
+    pub cleaned: u32,
 }
 
 /// What may be asked for and kept at most before a segment is given up.
@@ -60,18 +62,19 @@ pub struct Sweeper<'g> {
 }
 
 impl Sweeper<'_> {
-    /// At the end, without rows.
-    pub fn new(graph: &StateGraph, mut work: Work) -> Sweeper<'_> {
+    /// At the end, without rows, which have this margin.
+    pub fn new(graph: &StateGraph, mut work: Work, margin: usize) -> Sweeper<'_> {
         Sweeper {
             graph,
             by_weight: ByWeight::of(&mut work, graph),
             behind: number(graph.symbols()),
-            rows: StateRows::new(&mut work, graph.symbols()),
+            rows: StateRows::new(&mut work, graph.symbols(), margin),
             counts: Counts {
                 asked: 0,
                 kept: 0,
                 toffoli: 0,
-                is_clean: false,
+                has_beneath: false,
+                cleaned: 0,
             },
             most: Most {
                 asked: u32::MAX,
@@ -151,6 +154,7 @@ impl Sweeper<'_> {
             Layer::Beneath => 2,
         };
         self.counts.toffoli = self.counts.toffoli.saturating_add(times);
+        self.counts.has_beneath |= layer == Layer::Beneath;
     }
 
     /// Back over the end of a node in a layer: it goes off a line of its own, if all is there for
@@ -170,7 +174,9 @@ impl Sweeper<'_> {
         let row = self.rows.fresh(&mut self.work, layer);
         self.rows.push(&mut self.work, Step::End { row, layer });
         self.push_toggle(place, node, row, layer);
-        self.counts.is_clean |= layer == Layer::Beneath;
+        if layer == Layer::Beneath {
+            self.counts.cleaned = self.counts.cleaned.max(place.saturating_add(1));
+        }
         self.place_ended(node, row, layer);
         true
     }

@@ -10,9 +10,22 @@ use std::mem;
 const MOST_STEPS: usize = 4_000_000;
 
 /// The most units of work of a sweep: so many at first, and for each node that lies behind.
-const AT_FIRST: u64 = 10_000_000;
+const AT_FIRST: u64 = 6_000_000;
 
 const PER_NODE: u64 = 6000;
+
+/// How a sweep goes, and what it may take at most: it is given up where it takes more.
+#[derive(Clone, Copy)]
+pub struct Way {
+    /// In segments that begin before this place, nodes go off beneath behind them.
+    pub cleaned: u32,
+    /// By more than how many symbols a vector is to be shorter than a row to take its head.
+    pub margin: usize,
+    /// The rows at a moment, each of which has a line.
+    pub rows: u32,
+    /// The Toffoli gates, of which each node that is left takes one.
+    pub toffoli: u64,
+}
 
 /// What an output ends as: its place, and the row of the state on its line.
 #[derive(Clone, Copy)]
@@ -39,42 +52,47 @@ pub struct Sweep {
     /// Their heads fall.
     pub firsts: Vec<First>,
     pub toffoli: u64,
-    /// Whether a node went off beneath.
-    pub is_clean: bool,
-    /// The units of work that it took.
-    pub work: u64,
+    /// The gates of its plan, before any copy between lines is left out.
+    pub gates: u64,
+    /// Whether a node is made beneath.
+    pub has_beneath: bool,
+    /// The place behind the last node that went off beneath; 0 where none did.
+    pub cleaned: u32,
 }
 
-/// Goes over all nodes from the end, a segment at a time; in those that begin before the place
-/// `cleaned`, nodes go off beneath behind them. Each symbol that is added is a unit of work, and
-/// each node that is looked through for what is needed; they may be ten millions, and 6,000 for
-/// each node that lies behind.
+/// Goes over all nodes from the end, a segment at a time. Each symbol that is added is a unit of
+/// work, and each node that is looked through for what is needed; they may be six millions, and
+/// 6,000 for each node that lies behind. None where it takes more than it may.
 ///
 /// # Errors
 ///
 /// `GaveUp` where the work is spent, or there are too many steps; `Memory` where memory is refused.
 /// No clause says so.
-pub fn sweep_over(work: Work, graph: &StateGraph, cleaned: u32) -> Result<Sweep, Stop> {
-    let mut sweeper = Sweeper::new(graph, work);
-    let found = sweeper.sweep(cleaned);
-    sweeper.work.finish(found)
+pub fn sweep_over(work: &mut Work, graph: &StateGraph, way: Way) -> Result<Option<Sweep>, Stop> {
+    let mut sweeper = Sweeper::new(graph, work.part(u64::MAX), way.margin);
+    let found = sweeper.sweep(way);
+    work.join(&sweeper.work);
+    work.finish(found)
 }
 
 impl Sweeper<'_> {
-    fn sweep(&mut self, cleaned: u32) -> Sweep {
+    fn sweep(&mut self, way: Way) -> Option<Sweep> {
         let ends = self.begin_outputs();
         self.copy_outputs(&ends);
-        self.go_back(cleaned);
+        if !self.go_back(way) {
+            return None;
+        }
         self.insert_inputs();
-        Sweep {
+        Some(Sweep {
             firsts: self.firsts(),
+            gates: self.gates(),
             steps: self.work.take(&mut self.rows.steps),
             rows: self.rows.count(),
             ends,
             toffoli: self.counts.toffoli,
-            is_clean: self.counts.is_clean,
-            work: self.work.spent(),
-        }
+            has_beneath: self.counts.has_beneath,
+            cleaned: self.counts.cleaned,
+        })
     }
 
     // A row of the state for each output that has symbols; those that are sums of rows stay out.
@@ -109,8 +127,8 @@ impl Sweeper<'_> {
         }
     }
 
-    // Back over all segments.
-    fn go_back(&mut self, cleaned: u32) {
+    // Back over all segments; whether that takes no more than it may.
+    fn go_back(&mut self, way: Way) -> bool {
         let graph = self.graph;
         let mut starts = graph.starts.as_slice();
         let mut end = number(graph.nodes.len());
@@ -119,7 +137,7 @@ impl Sweeper<'_> {
             let cuts = Cuts {
                 starts,
                 end,
-                cleaned,
+                cleaned: way.cleaned,
                 score,
             };
             self.behind = graph.symbol(end);
@@ -130,10 +148,14 @@ impl Sweeper<'_> {
             starts = &starts[..starts.len().saturating_sub(segment.count)];
             end = cuts.start(segment.count);
             self.stop_at(MOST_STEPS);
+            if self.is_beyond(way, end) {
+                return false;
+            }
         }
         if end > 0 {
             self.work.give_up();
         }
+        true
     }
 
     // Back over a segment, of as much work as the nodes behind it allow.
@@ -151,6 +173,41 @@ impl Sweeper<'_> {
     fn stop_at(&mut self, most: usize) {
         if self.rows.steps.len() > most {
             self.work.give_up();
+        }
+    }
+
+    // Whether it takes more than it may, with so many nodes that are left.
+    fn is_beyond(&self, way: Way, left: u32) -> bool {
+        let toffoli = self.counts.toffoli.saturating_add(left as u64);
+        toffoli > way.toffoli || self.rows.rank() > way.rows
+    }
+
+    // The gates of all steps, those for rows beneath twice.
+    fn gates(&self) -> u64 {
+        let mut gates: u64 = 0;
+        for step in &self.rows.steps {
+            gates = gates.saturating_add(self.gates_of(step));
+        }
+        gates
+    }
+
+    fn gates_of(&self, step: &Step) -> u64 {
+        let (onto, gates) = match step {
+            Step::Add { to, .. } => (*to, 1),
+            Step::Toggle {
+                onto,
+                first,
+                second,
+                ..
+            } => {
+                let rows = first.len().saturating_add(second.len()) as u64;
+                (*onto, rows.saturating_mul(2).saturating_sub(3))
+            }
+            Step::Begin(_) | Step::End { .. } | Step::Last(_) => return 0,
+        };
+        match self.rows.layer(onto) {
+            Layer::State => gates,
+            Layer::Beneath => gates.saturating_mul(2),
         }
     }
 
