@@ -1,3 +1,4 @@
+pub mod CopiedLemmas
 pub mod LeanLemmas
 pub mod SearchLemmas
 pub mod ShallowLemmas

@@ -58,7 +58,7 @@ shallow_laid s b p laid plan kept =
         gates = of.gates;
         clean = of.clean Any (settled_outputs s) plan.clean;
       };
-      shallow = record { narrow = subst AreNarrow (sym kept.same) plan.narrow };
+      narrow = subst AreNarrow (sym kept.same) plan.narrow;
     }
 
 -- gates in another order leave it one
@@ -79,7 +79,7 @@ shallow_reordered s b old new is of =
           };
         });
       };
-      shallow = record { narrow = narrow-reordered old.circuit.gates new.circuit.gates is.gates of.shallow.narrow };
+      narrow = narrow-reordered old.circuit.gates new.circuit.gates is.gates of.narrow;
     }
 
 -- the better of two plans is one
@@ -92,7 +92,7 @@ shallow_best s b old best found was also (inr other) = subst (λ (o : Option Lai
 
 pub shallow_of_lean : (s : SettledView) (b : BudgetView) (tried : Result LaidView PlanFault) → IfOk tried (IsLaidFor Any s b) → IfOk tried (IsLean s b)
     → IfOk tried (IsShallowFor s b)
-shallow_of_lean s b (Ok laid) is lean = record { laid_for = is; shallow = record { narrow = lean.narrow } }
+shallow_of_lean s b (Ok laid) is lean = record { laid_for = is; narrow = lean.narrow }
 shallow_of_lean s b (Err fault) is lean = tt
 
 shallow_fault : (s : SettledView) (b : BudgetView) (fault : PlanFault) → IsChoiceFault Lean s b fault → IsChoiceFault Shallow s b fault

@@ -13,7 +13,9 @@ use Rattle.circuit_plans.specs.declared.roles.Start.TheVariants.{Any, Zero}
 use Rattle.circuit_plans.specs.Plans.{AddsOutputs, BudgetView, LaidView, roles_of}
 use Rattle.sum_graph.specs.Graphs.{first_work}
 use Rattle.circuit_plans.specs.Plans.{HasPortLines, wanted_lines}
+use Rattle.copied_plans.specs.Levels.{and_depth}
 use Rattle.mct_circuit.specs.Gates.{AreNarrow}
+use Rattle.mct_circuit.specs.Sizes.{toffoli_depth_of}
 use Rattle.eager_cleanup.specs.Eager.{AreWithinEager, ports_of}
 use Rattle.bennett_pebbling.specs.Blocks.{AreWithinBlock}
 use Rattle.plan_choice.specs.Blocks.{extent_of}
@@ -54,6 +56,17 @@ PebblingFits b m = PlainFits b m ⊎ (FineFits b m ⊎ BlockFits b m)
 -- a line for each step, and what two toggles of each lean node and one of each output weigh at most
 abbrev pub LeanFits : BudgetView → Measures → Type 0
 LeanFits b m = Fit b (lean_lines m b.borrow) (lean_gates m)
+
+-- The numbers of the row for which the law of depth holds: a line for each input, output and
+-- borrowed bit and three for each step; and eight gates for each step and one for each output.
+abbrev pub shallow_lines : Measures → ℕ → ℕ
+shallow_lines m borrowed = m.inputs + m.outputs + 3 * m.steps + borrowed
+
+abbrev pub shallow_gates : Measures → ℕ
+shallow_gates m = 8 * m.steps + m.outputs
+
+abbrev pub ShallowFits : BudgetView → Measures → Type 0
+ShallowFits b m = Fit b (shallow_lines m b.borrow) (shallow_gates m)
 
 -- one of the rows that a choice of plans allows fits
 abbrev pub SomeRowFits : Plan → BudgetView → Measures → Type 0
@@ -169,9 +182,12 @@ pub record IsCompact (s : SettledView) (b : BudgetView) (laid : LaidView) : Type
   pub narrow : AreNarrow laid.circuit.gates
   pub few : (m : Measures) → IsWithin s m → LeanFits b m → HasFewToffoliGates s laid
 
--- a plan that is chosen by its Toffoli depth, of narrow gates
-pub record IsShallow (laid : LaidView) : Type 0 where
+-- A plan that is chosen by its Toffoli depth, of narrow gates. The law of depth: where the shallow
+-- row fits, its Toffoli depth is at most twice the AND depth of the settled graph.
+pub record IsShallow (s : SettledView) (b : BudgetView) (laid : LaidView) : Type 0 where
   pub narrow : AreNarrow laid.circuit.gates
+  pub depth : (m : Measures) → IsWithin s m → ShallowFits b m
+      → toffoli_depth_of laid.circuit.gates ≤ 2 * and_depth s.nodes
 
 -- a plan of the lean graph, by what the output lines may hold
 abbrev pub IsOfLean : Start → SettledView → BudgetView → LaidView → Type 0
@@ -190,4 +206,4 @@ IsChosen Compact s b laid = IsCompact s b laid
 IsChosen Eager s b laid = IsEager s b laid
 IsChosen Lean s b laid = IsLean s b laid
 IsChosen Pebble s b laid = IsPebbling s b laid
-IsChosen Shallow s b laid = IsShallow laid
+IsChosen Shallow s b laid = IsShallow s b laid

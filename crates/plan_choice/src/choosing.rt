@@ -7,6 +7,7 @@ ghost use Rattle.circuit_plans.specs.declared.choice.Plan.TheVariants.{Auto, Com
 ghost use Rattle.circuit_plans.specs.declared.roles.Start.TheVariants.{Any};
 ghost use Rattle.circuit_plans.specs.Plans.{HasPortLines, start_of};
 
+use crate::copied::or_copied;
 use crate::laying::{Tried, is_refused, lay_eager};
 use crate::lean::lay_lean;
 use crate::search::lay_pebbling;
@@ -26,7 +27,8 @@ use sum_graph::SumGraph;
 /// that a planner finds, on at most a line for each input, output, node and borrowed bit. Where the
 /// lean row fits, it has at most two Toffoli gates for each AND of the graph, one for each that
 /// goes to one output alone, and at most twice the gates of the row. `Shallow` takes the plan of
-/// `Lean`, or one that a planner finds where that is better by its Toffoli depth.
+/// `Lean`, or one that a planner finds where that is better by its Toffoli depth; where the shallow
+/// row fits, that depth is at most twice the AND depth of the graph.
 ///
 /// # Errors
 ///
@@ -98,13 +100,15 @@ fn lean_plan(alloc: Global, graph: &Settled, budget: &Budget, start: Start) -> T
     lay_lean(alloc, graph, &lean, budget, start)
 }
 
-// The best plan of the lean graph for any bits on the output lines, or a shallower one.
+// The best plan of the lean graph for any bits on the output lines, or a shallower one; the copied
+// plan where the law of depth wants it.
 fn shallow_plan(alloc: Global, graph: &Settled, budget: &Budget) -> Tried
     requires { HasPortLines (ports_of graph.now) budget.now }
     ensures ok { IfOk result (IsLaidFor Any graph.now budget.now) }
-    ensures chosen { IfOk result IsShallow }
+    ensures chosen { IfOk result (IsShallow graph.now budget.now) }
     ensures refused { IfErr result (IsChoiceFault Shallow graph.now budget.now) }
 {
     let tried = lean_plan(alloc, graph, budget, Start::Any);
-    or_shallower(alloc, graph, budget, tried)
+    let tried = or_shallower(alloc, graph, budget, tried);
+    or_copied(alloc, graph, budget, tried)
 }

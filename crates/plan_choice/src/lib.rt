@@ -2,6 +2,7 @@
 #![tactic(auto)]
 
 mod choosing;
+mod copied;
 mod laying;
 mod lean;
 mod scripts;

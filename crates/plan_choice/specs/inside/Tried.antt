@@ -9,12 +9,15 @@ use Rattle.circuit_plans.specs.declared.roles.Start.{Start}
 use Rattle.circuit_plans.specs.declared.roles.Start.TheVariants.{Any, Zero}
 use Rattle.circuit_plans.specs.Plans.{AddsOutputs, BudgetView, HasPortLines, IsNarrowPlan, PlannedView, LaidView, roles_of, roles_of_plan, wanted_lines}
 use Rattle.claim_check.specs.Settled.{SettledView, settled_outputs}
+use Rattle.copied_plans.specs.Levels.{and_depth}
 use Rattle.gate_split.specs.Costs.{most_gates}
 use Rattle.gate_split.specs.Split.{HasSplitList, IsSplitList}
+use Rattle.mct_circuit.specs.Gates.{AreNarrow}
+use Rattle.mct_circuit.specs.Sizes.{toffoli_depth_of}
 use Rattle.sum_graph.specs.Graphs.{SumGraphView, first_work, products_in, sum_outputs}
 use Rattle.plan_choice.specs.declared.lean.Most.{Most}
 use Rattle.plan_choice.specs.Blocks.{IsPebblingFault, extent_of}
-use Rattle.plan_choice.specs.Choices.{IsLaidFor, IsShallow, NoLargerFits}
+use Rattle.plan_choice.specs.Choices.{IsLaidFor, NoLargerFits}
 use Rattle.sum_toggles.specs.Toggles.{toggle_weight}
 use Rattle.plan_choice.specs.Lean.{OneBlockFits, one_block_weight, toffoli}
 
@@ -78,10 +81,15 @@ pub record HasOutputsOf (s : SettledView) (l : SumGraphView) : Type 0 where
   pub outputs : length l.outputs ≡ length s.outputs
   pub values : (input : List Bool) → sum_outputs l input ≡ settled_outputs s input
 
--- a plan of the settled graph that is chosen by its Toffoli depth
+-- a plan of the settled graph, of narrow gates
 pub record IsShallowFor (s : SettledView) (b : BudgetView) (laid : LaidView) : Type 0 where
   pub laid_for : IsLaidFor Any s b laid
-  pub shallow : IsShallow laid
+  pub narrow : AreNarrow laid.circuit.gates
+
+-- one of a Toffoli depth that is at most twice the AND depth
+pub record IsCopied (s : SettledView) (b : BudgetView) (laid : LaidView) : Type 0 where
+  pub is : IsShallowFor s b laid
+  pub depth : toffoli_depth_of laid.circuit.gates ≤ 2 * and_depth s.nodes
 
 -- ---- plans of a lean graph
 
