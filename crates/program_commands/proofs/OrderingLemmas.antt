@@ -1,5 +1,5 @@
 -- A plan whose gates stand in another order is a circuit for the same texts.
-use Rattle.std.proofs.Common.{ℕ, ◌*◌, ◌≤◌, Bool, List, sym, ap, ◌∙◌, subst}
+use Rattle.std.proofs.Common.{ℕ, ◌*◌, ◌≤◌, Bool, List, sym, ap, ◌∙◌, subst, arith}
 use Rattle.circuit_plans.specs.declared.choice.Plan.{Plan}
 use Rattle.circuit_plans.specs.declared.choice.Plan.TheVariants.{Auto, Compact, Eager, Lean, Pebble, Shallow}
 use Rattle.circuit_plans.specs.declared.plan.TheConstants.{MOST_GATES, MOST_LINES}
@@ -75,6 +75,9 @@ planned_still order tape roles old new written p =
             (p.few_toffoli_gates.few which fits);
       };
       lean_size = subst (λ (n : ℕ). HasLeanSize order tape (lines_in roles) n) (sym (length-reordered old new is)) p.lean_size;
+      small_depth = record {
+        small = λ shallow fits. (let small = p.small_depth.small shallow fits in omega (arith, is.toffoli_depth, small));
+      };
     }
 
 circuit_still : (order : OrderView) (text : List ℕ) (tape : TapeView) (roles : Roles) (old new : List GateView) → AreWrittenFor order.plan old new

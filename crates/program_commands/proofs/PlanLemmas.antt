@@ -20,7 +20,7 @@ use Rattle.real_format.proofs.MeaningLemmas as real
 use Rattle.mct_circuit.specs.Sizes.{counts_of}
 use Rattle.circuit_plans.specs.declared.choice.Plan.TheVariants.{Auto, Compact, Eager, Lean, Pebble, Shallow}
 use Rattle.flip_orders.proofs.ReorderingLemmas.{AreReordered-refl}
-use Rattle.plan_choice.specs.Choices.{IsChosen, IsCompact, IsLean, LeanFits}
+use Rattle.plan_choice.specs.Choices.{IsChosen, IsCompact, IsLean, IsShallow, LeanFits, ShallowFits}
 use Rattle.program_commands.specs.Outcomes.{IsCompileFault, IsWritable, file_of}
 use Rattle.program_texts.specs.Outcomes.{IsSettlingFault, IsTextFault}
 use Rattle.revc_words.specs.declared.order.Format.{Format}
@@ -37,7 +37,7 @@ use Rattle.command_answers.specs.declared.fault.Fault.TheVariants as faults
 use Rattle.command_answers.specs.declared.fault.Refusal.TheVariants as refusals
 use Rattle.program_texts.specs.Clean.{ComputesOn}
 use Rattle.program_commands.specs.Clean.{MeansCompiledIn}
-use Rattle.program_commands.specs.Compile.{AreWrittenFor, HasFewToffoliGates, HasLeanSize, IsCompiled, LeanRowFits, budget_of, least_lines, row_gates, row_lines}
+use Rattle.program_commands.specs.Compile.{AreWrittenFor, HasFewToffoliGates, HasLeanSize, HasSmallDepth, IsCompiled, LeanRowFits, ShallowRowFits, budget_of, least_lines, row_gates, row_lines}
 use Rattle.program_texts.specs.Settling.{LeavesTape, LeavesSettled, ForTexts, IsSettledWithin}
 use Rattle.program_commands.specs.inside.Plans.{IsCleanPlan, IsPlanOf, IsPlannedFor, IsPlanningFault}
 use Rattle.program_texts.proofs.FormedLemmas.{some_output}
@@ -116,6 +116,19 @@ module _ (order : OrderView) (laid : LaidView) (tape : TapeView) (s : SettledVie
       few_gates = λ lean fit. omega (arith, (lean_plan lean).row_gates m within (row_fits fit), same_gates);
     }
 
+    shallow_fits : ShallowRowFits order tape → ShallowFits (budget_of order) m
+    shallow_fits fit = record {
+      few_lines = omega (arith, are.inputs, are.outputs, are.steps, fit.lines);
+      few_gates = omega (arith, are.outputs, are.steps, fit.gates);
+    }
+
+    small_depth : HasSmallDepth order tape s laid.circuit.gates
+    small_depth = record {
+      small = λ shallow fit.
+          (let plan : IsShallow s (budget_of order) laid = subst (λ (p : Plan). IsChosen p s (budget_of order) laid) shallow chosen in
+          plan.depth m within (shallow_fits fit));
+    }
+
 -- gates that are not put in another order are written as they may be
 as_laid : (plan : Plan) (gates : List GateView) → AreWrittenFor plan gates gates
 as_laid Auto gates = refl
@@ -158,6 +171,7 @@ planned order text laid tape s l settled plan c =
           lean_size =
               subst (λ (n : ℕ). HasLeanSize order tape n (length laid.circuit.gates)) (sym plan.sum_of)
               (lean_size order laid tape s settled.of_tape settled.no_larger plan.chosen);
+          small_depth = small_depth order laid tape s settled.of_tape settled.no_larger plan.chosen;
         };
       };
       can = writable (start_of order.plan) laid l.left.program (budget_of order) c;

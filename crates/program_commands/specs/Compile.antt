@@ -8,7 +8,8 @@ use Rattle.claim_check.specs.Settled.{SettledView, IsSettledOf}
 use Rattle.circuit_plans.specs.declared.roles.Roles.{Roles}
 use Rattle.circuit_plans.specs.Plans.{BudgetView, LaidView, lines_in, roles_of, start_of}
 use Rattle.mct_circuit.specs.Gates.{GateView}
-use Rattle.mct_circuit.specs.Sizes.{counts_of}
+use Rattle.copied_plans.specs.Levels.{and_depth}
+use Rattle.mct_circuit.specs.Sizes.{counts_of, toffoli_depth_of}
 use Rattle.circuit_plans.specs.declared.choice.Plan.{Plan}
 use Rattle.circuit_plans.specs.declared.choice.Plan.TheVariants.{Auto, Compact, Eager, Lean, Pebble, Shallow}
 use Rattle.flip_orders.specs.Orders.{AreReordered}
@@ -56,6 +57,20 @@ pub record HasLeanSize (order : OrderView) (tape : TapeView) (lines gates : ℕ)
   pub few_lines : order.plan ≡ Lean → lines ≤ row_lines tape order
   pub few_gates : order.plan ≡ Lean → LeanRowFits order tape → gates ≤ 2 * row_gates tape
 
+-- The shallow row of a run fits the budgets: a line for each input, output and borrowed bit and
+-- three for each write; and eight gates for each write and one for each output.
+pub record ShallowRowFits (order : OrderView) (tape : TapeView) : Type 0 where
+  pub lines :
+      inputs_of tape + outputs_of tape + 3 * writes_of tape + order.borrow ≤ order.lines
+  pub gates : 8 * writes_of tape + outputs_of tape ≤ order.gates
+
+-- The law of depth: under the plan `shallow`, where the shallow row fits, the Toffoli depth is at
+-- most twice the AND depth of the settled graph.
+pub record HasSmallDepth (order : OrderView) (tape : TapeView) (graph : SettledView)
+    (gates : List GateView) : Type 0 where
+  pub small : order.plan ≡ Shallow → ShallowRowFits order tape
+      → toffoli_depth_of gates ≤ 2 * and_depth graph.nodes
+
 -- The gates of a plan as they are written: under `lean` and `compact` in another order, with the
 -- same line map, no deeper and of no greater Toffoli depth; else as they are.
 abbrev pub AreWrittenFor : Plan → List GateView → List GateView → Type 0
@@ -70,7 +85,7 @@ AreWrittenFor Shallow laid gates = gates ≡ laid
 -- written. The plan is one of a settled graph of the tape: an eager one within the graph's eager
 -- numbers; a pebbling within the numbers of the largest block that fits, which comes without
 -- `--plan` only where the eager numbers do not fit; a plan of its lean graph, of few Toffoli gates;
--- or under `shallow` any plan of it, of narrow gates.
+-- or under `shallow` a plan of it, of narrow gates and of small Toffoli depth.
 pub record IsPlannedAs (order : OrderView) (tape : TapeView) (roles : Roles)
     (gates : List GateView) : Type 0 where
   pub graph : SettledView
@@ -83,6 +98,7 @@ pub record IsPlannedAs (order : OrderView) (tape : TapeView) (roles : Roles)
   pub chosen : IsChosen order.plan graph (budget_of order) laid
   pub few_toffoli_gates : HasFewToffoliGates order tape gates
   pub lean_size : HasLeanSize order tape (lines_in roles) (length gates)
+  pub small_depth : HasSmallDepth order tape graph gates
 
 -- The text is well formed, and that of one program, which leaves this tape and whose claims hold on
 -- all inputs, within the nodes; the gates are a clean circuit for it, from what the order's plan
