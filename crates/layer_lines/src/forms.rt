@@ -82,6 +82,13 @@ impl Forms {
         list_at(&self.with, symbol)
     }
 
+    /// Of the forms that have a symbol the latest ones, at most so many.
+    pub fn latest(&self, symbol: u32, most: usize) -> &[Form] {
+        let forms = self.with(symbol);
+        let (_, latest) = forms.split_at(forms.len().saturating_sub(most));
+        latest
+    }
+
     /// The lines that hold a form.
     pub fn holders(&self, form: Form) -> &[u32] {
         list_at(&self.holders, form)

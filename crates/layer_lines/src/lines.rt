@@ -11,6 +11,9 @@ use std::alloc::Global;
 // How many lines that hold the same are looked at.
 const MOST_HOLDERS: usize = 64;
 
+// How many forms that have a symbol are looked at.
+const MOST_NEAR: usize = 16;
+
 // The most units of work: looks at lines and symbols.
 const MOST_WORK: u64 = 400_000_000;
 
@@ -19,6 +22,13 @@ const MOST_WORK: u64 = 400_000_000;
 struct Waiting {
     line: u32,
     layer: u32,
+}
+
+// A line, and how many copies take it to a form.
+#[derive(Clone, Copy)]
+struct Near {
+    line: Option<u32>,
+    copies: usize,
 }
 
 /// Lines, with the moves so far. Input lines hold their symbols, nodes stand on lines of their own.
@@ -84,6 +94,11 @@ impl Lines {
         self.homes.get(symbol)
     }
 
+    /// How many copies a line takes part in at this boundary so far, or waits for.
+    pub fn load(&self, line: u32) -> u32 {
+        self.clock.load(line)
+    }
+
     // ---- moves
 
     // Notes the next move as a gate.
@@ -97,7 +112,8 @@ impl Lines {
         self.work.push(&mut self.steps, step);
     }
 
-    fn copy(&mut self, from: u32, to: u32, is_undone: bool) {
+    /// Copies a line to another; in the reversed part once more, or for good.
+    pub fn copy(&mut self, from: u32, to: u32, is_undone: bool) {
         self.clock.note_copy(from, to);
         self.note([from, NOWHERE], to, is_undone);
         self.moves.copy(from, to);
@@ -223,6 +239,9 @@ impl Lines {
         if let Some(line) = self.unused_holder(form) {
             return line;
         }
+        if let Some(line) = self.nearest(form) {
+            return line;
+        }
         if let Some(line) = self.free.take() {
             return line;
         }
@@ -242,6 +261,40 @@ impl Lines {
             }
         }
         None
+    }
+
+    // Of the lines whose forms have a symbol of this one, and that are not used in this layer, that
+    // which becomes it by the fewest copies; none where a free line takes no more.
+    fn nearest(&mut self, form: Form) -> Option<u32> {
+        let sum = self.work.copy(self.forms.sum(form));
+        let mut best = Near {
+            line: None,
+            copies: sum.len(),
+        };
+        for symbol in &sum {
+            best = self.nearer(&sum, *symbol, best);
+        }
+        best.line
+    }
+
+    // The best line so far, or a better one among those whose forms have a symbol.
+    fn nearer(&mut self, sum: &[u32], symbol: u32, best: Near) -> Near {
+        let mut best = best;
+        let forms = self.work.copy(self.forms.latest(symbol, MOST_NEAR));
+        self.work.spend(forms.len() as u64);
+        for form in &forms {
+            if let Some(line) = self.unused_holder(*form) {
+                let copies = self.work.sum_of(sum, self.forms.sum(*form)).len();
+                self.work.spend(copies as u64);
+                if copies < best.copies {
+                    best = Near {
+                        line: Some(line),
+                        copies,
+                    };
+                }
+            }
+        }
+        best
     }
 
     // The temporary line that was not used for longest; none where it is used in this layer.
@@ -273,6 +326,12 @@ impl Lines {
 
     // ---- nodes and factors
 
+    /// Whether a temporary line that is not used in this layer holds a factor.
+    pub fn is_held(&mut self, factor: &[u32]) -> bool {
+        let form = self.forms.form(&mut self.work, factor);
+        self.unused_holder(form).is_some()
+    }
+
     /// A line that holds a factor, for this layer alone: the line of its symbol where that is
     /// alone and not used in the layer, or a temporary one.
     pub fn control(&mut self, factor: &[u32]) -> u32 {
@@ -290,8 +349,8 @@ impl Lines {
         line
     }
 
-    /// A line is the target of this layer.
-    pub fn note_target(&mut self, line: u32) {
+    /// A line is a control or a target in this layer.
+    pub fn note_use(&mut self, line: u32) {
         self.clock.note_use(line);
     }
 
@@ -370,12 +429,13 @@ impl Lines {
         }
     }
 
-    /// The lines so far times the square of the depth of the moves that the reversed part undoes,
-    /// as circuits are measured by their area and the square of their time (Thompson, 1979).
+    /// The lines so far times the cube of the depth of the moves that the reversed part undoes: of
+    /// two plans the shallower one is better, unless it takes far more lines.
     pub fn cost(&mut self) -> u64 {
         let depth = u64::from(depth(&mut self.work, &self.steps, self.limit));
         let lines = u64::from(self.free.behind());
-        depth.saturating_mul(depth).saturating_mul(lines)
+        let square = depth.saturating_mul(depth);
+        square.saturating_mul(depth).saturating_mul(lines)
     }
 
     fn output_line(&self, output: u32) -> u32 {

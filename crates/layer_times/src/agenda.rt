@@ -1,9 +1,9 @@
 // What is done in each layer, and what that comes to.
 use crate::cleaning::{Clearing, Left, NEVER};
-use crate::graph::{Factors, LayerGraph, Node};
+use crate::graph::LayerGraph;
+use crate::room::Room;
 use crate::times::Times;
-use plan_tools::{Table, Work, number};
-use std::alloc::Global;
+use plan_tools::{Work, number};
 
 /// What is done at a boundary, and then in the layer behind it.
 #[derive(Drop)]
@@ -25,13 +25,15 @@ pub struct Layer {
 #[derive(Drop)]
 pub struct Agenda {
     pub layers: Vec<Layer>,
-    lefts: Vec<Left>,
+    clearing: Clearing,
 }
 
 /// What a plan comes to. The better of two is the one that comes to less, at the first of these
 /// numbers where they differ.
 #[derive(Clone, Copy, PartialEq, Eq, PartialOrd, Ord)]
 pub struct Demand {
+    /// The layers that have Toffoli gates.
+    pub layers: u32,
     pub toffoli: u64,
     /// The work lines.
     pub lines: u32,
@@ -40,7 +42,10 @@ pub struct Demand {
 impl Agenda {
     /// The layers of nodes that are made and cleared at these times.
     pub fn of(work: &mut Work, graph: &LayerGraph, times: &Times, clearing: Clearing) -> Agenda {
-        let mut agenda = Agenda::none(work.alloc);
+        let mut agenda = Agenda {
+            layers: Vec::new(work.alloc),
+            clearing,
+        };
         for _ in 0..times.depth.saturating_add(2) {
             let layer = Layer {
                 arrivals: Vec::new(work.alloc),
@@ -52,26 +57,14 @@ impl Agenda {
             work.push(&mut agenda.layers, layer);
         }
         agenda.put_nodes(work, graph, times);
-        agenda.put_clearings(work, graph, &clearing.off);
+        agenda.put_clearings(work, graph);
         agenda.put_outputs(work, times);
-        agenda.lefts = clearing.lefts;
         agenda
-    }
-
-    /// No layers.
-    pub fn none(alloc: Global) -> Agenda {
-        Agenda {
-            layers: Vec::new(alloc),
-            lefts: Vec::new(alloc),
-        }
     }
 
     /// What the line of a node holds when it is cleared, where nodes are written out in its bits.
     pub fn left(&self, place: u32) -> Option<&Left> {
-        match self.lefts.get(place as usize) {
-            Some(left) if !left.names.is_empty() => Some(left),
-            _ => None,
-        }
+        self.clearing.left(place)
     }
 
     fn put_nodes(&mut self, work: &mut Work, graph: &LayerGraph, times: &Times) {
@@ -85,7 +78,7 @@ impl Agenda {
                 work.push(&mut layer.made, place);
             }
             if !times.is_straight(place) {
-                self.arrive(work, time.saturating_add(1), place);
+                self.arrive(work, times.there.get(place), place);
             }
         }
     }
@@ -96,9 +89,9 @@ impl Agenda {
         }
     }
 
-    fn put_clearings(&mut self, work: &mut Work, graph: &LayerGraph, off: &Table<u32>) {
+    fn put_clearings(&mut self, work: &mut Work, graph: &LayerGraph) {
         for place in (0..graph.count()).rev() {
-            let time = off.get(place);
+            let time = self.clearing.off.get(place);
             if time == NEVER {
                 continue;
             }
@@ -121,20 +114,17 @@ impl Agenda {
         }
     }
 
-    /// What the layers come to, where each factor takes a line for itself but for the first of a
-    /// layer that is a given symbol alone.
+    /// What the layers come to.
     pub fn demand(&self, work: &mut Work, graph: &LayerGraph, times: &Times) -> Demand {
         let mut count = Count {
             graph,
             times,
             demand: Demand {
+                layers: 0,
                 toffoli: 0,
                 lines: 0,
             },
-            held: 0,
-            taken: 0,
-            number: 0,
-            uses: Table::new(work, graph.symbols(), 0),
+            room: Room::new(work, graph.symbols()),
         };
         for layer in &self.layers {
             count.pass(layer);
@@ -149,40 +139,44 @@ struct Count<'c> {
     graph: &'c LayerGraph,
     times: &'c Times,
     demand: Demand,
-    /// How many lines hold nodes.
-    held: u32,
-    /// How many lines hold factors in this layer.
-    taken: u32,
-    /// The number of this layer, from 1 on.
-    number: u32,
-    /// Of each symbol the last layer in which its line was a control.
-    uses: Table<u32>,
+    room: Room,
 }
 
 impl Count<'_> {
     fn pass(&mut self, layer: &Layer) {
-        self.number = self.number.saturating_add(1);
-        self.taken = 0;
+        if !layer.made.is_empty() || !layer.cleared.is_empty() {
+            self.demand.layers = self.demand.layers.saturating_add(1);
+        }
+        self.room.advance();
         self.hold_linear(&layer.arrivals);
         self.note();
-        self.held = self.held.saturating_sub(number(layer.departures.len()));
+        self.room.let_go(number(layer.departures.len()));
+        self.ask(&layer.cleared);
+        self.ask(&layer.made);
         self.toggle(&layer.cleared, 2);
         self.make(&layer.made);
         self.note();
-        self.held = self.held.saturating_sub(number(layer.cleared.len()));
+        self.room.let_go(number(layer.cleared.len()));
+    }
+
+    fn ask(&mut self, places: &[u32]) {
+        for place in places {
+            if let Some(factors) = self.graph.factors(*place) {
+                self.room.ask(factors);
+            }
+        }
     }
 
     fn hold_linear(&mut self, arrivals: &[u32]) {
         for place in arrivals {
             if self.graph.is_linear(*place) {
-                self.held = self.held.saturating_add(1);
+                self.room.hold(1);
             }
         }
     }
 
     fn note(&mut self) {
-        let lines = self.held.saturating_add(self.taken);
-        self.demand.lines = self.demand.lines.max(lines);
+        self.demand.lines = self.demand.lines.max(self.room.lines());
     }
 
     fn make(&mut self, nodes: &[u32]) {
@@ -190,7 +184,7 @@ impl Count<'_> {
             if self.times.is_straight(*place) {
                 self.toggle(&[*place], 1);
             } else {
-                self.held = self.held.saturating_add(1);
+                self.room.hold(1);
                 self.toggle(&[*place], 2);
             }
         }
@@ -200,30 +194,9 @@ impl Count<'_> {
     fn toggle(&mut self, nodes: &[u32], gates: u64) {
         for place in nodes {
             self.demand.toffoli = self.demand.toffoli.saturating_add(gates);
-            if let Some(
-                Node {
-                    factors: Some(factors),
-                    ..
-                },
-            ) = self.graph.node(*place)
-            {
-                self.take(factors);
+            if let Some(factors) = self.graph.factors(*place) {
+                self.room.take(factors);
             }
-        }
-    }
-
-    fn take(&mut self, factors: &Factors) {
-        self.take_factor(&factors.first);
-        self.take_factor(&factors.second);
-    }
-
-    fn take_factor(&mut self, symbols: &[u32]) {
-        if let [symbol] = symbols
-            && self.uses.get(*symbol) != self.number
-        {
-            self.uses.set(*symbol, self.number);
-        } else {
-            self.taken = self.taken.saturating_add(1);
         }
     }
 }

@@ -24,6 +24,16 @@ pub struct Clearing {
     pub lefts: Vec<Left>,
 }
 
+impl Clearing {
+    /// What the line of a node holds when it is cleared, where nodes are written out in its bits.
+    pub fn left(&self, place: u32) -> Option<&Left> {
+        match self.lefts.get(place as usize) {
+            Some(left) if !left.names.is_empty() => Some(left),
+            _ => None,
+        }
+    }
+}
+
 /// What the line of a kept node without a product holds when it is cleared, where that is short:
 /// the sum of its bits, in which other such nodes are written out.
 #[derive(Drop)]

@@ -73,6 +73,14 @@ impl LayerGraph {
         self.nodes.get(place as usize)
     }
 
+    /// The factors of the node at a place, where it has a product.
+    pub fn factors(&self, place: u32) -> Option<&Factors> {
+        match self.node(place) {
+            Some(node) => node.factors.as_ref(),
+            None => None,
+        }
+    }
+
     /// The symbol of the node at a place.
     pub fn symbol(&self, place: u32) -> u32 {
         self.inputs.saturating_add(place)

@@ -3,6 +3,7 @@ use crate::agenda::{Agenda, Demand};
 use crate::cleaning::{Plan, clearing_of};
 use crate::graph::LayerGraph;
 use crate::parts::Widths;
+use crate::scheduling::{Limit, schedule_within};
 use crate::times::Times;
 use plan_tools::Work;
 
@@ -11,14 +12,27 @@ const COUNTS: [u32; 17] = [
     2, 3, 4, 5, 6, 8, 10, 12, 16, 20, 24, 32, 40, 48, 64, 96, 128,
 ];
 
+// In how many parts nodes may be made at a time, where lines are short.
+const WINDOWS: [u32; 3] = [1_000, 2, 1];
+
 // How often half of the parts that may be cleaned are left out.
 const HALVINGS: u32 = 7;
 
-// How many parts there are, and how many of them are cleaned.
+/// When what is done, and what that comes to.
+#[derive(Drop)]
+pub struct Timetable {
+    pub times: Times,
+    pub agenda: Agenda,
+    pub demand: Demand,
+}
+
+// How many parts there are, how many of them are cleaned, and in how many nodes are made at a time;
+// none where nodes are made at their latest times.
 #[derive(Clone, Copy)]
 struct Choice {
     count: u32,
     cleaned: u32,
+    window: Option<u32>,
 }
 
 // A choice, and what its plan comes to.
@@ -38,15 +52,16 @@ struct Search<'s> {
     best: Option<Found>,
 }
 
-/// The agenda of the best plan that is found of at most so many work lines, with what it comes to:
-/// nothing is cleaned but nodes without a product, or, where that takes too many lines, as many
-/// parts as are needed. The work gives up where no plan has few enough lines.
-pub fn best_agenda(
+/// The timetable of the best plan that is found of at most so many work lines: nothing is cleaned
+/// but nodes without a product, or, where that takes too many lines, as many parts as are needed;
+/// and where none of these plans fits, nodes wait for lines. The work gives up where no plan has
+/// few enough lines.
+pub fn best_timetable(
     work: &mut Work,
     graph: &LayerGraph,
     times: &Times,
     most: u32,
-) -> (Agenda, Demand) {
+) -> Option<Timetable> {
     let mut search = Search {
         graph,
         times,
@@ -55,7 +70,13 @@ pub fn best_agenda(
         best: None,
     };
     search.try_all(work);
-    search.finish(work)
+    match search.best {
+        Some(found) => search.timetable(work, found.choice),
+        None => {
+            work.give_up();
+            None
+        }
+    }
 }
 
 impl Search<'_> {
@@ -63,21 +84,59 @@ impl Search<'_> {
         let whole = Choice {
             count: 1,
             cleaned: 0,
+            window: None,
         };
         if self.fits(work, whole) {
             return;
         }
+        self.try_counts(work);
+        self.try_windows(work);
+        self.clean_less(work);
+    }
+
+    fn try_counts(&mut self, work: &mut Work) {
         for count in COUNTS {
             self.try_count(work, count);
         }
-        self.clean_less(work);
+    }
+
+    fn try_windows(&mut self, work: &mut Work) {
+        for window in WINDOWS {
+            self.try_window(work, window);
+        }
     }
 
     // Cleans all parts but the last one or two, or three quarters of them.
     fn try_count(&mut self, work: &mut Work, count: u32) {
         for kept in [1, 2, count / 4] {
-            let cleaned = count.saturating_sub(kept);
-            let _fits = self.fits(work, Choice { count, cleaned });
+            let choice = Choice {
+                count,
+                cleaned: count.saturating_sub(kept),
+                window: None,
+            };
+            let _fits = self.fits(work, choice);
+        }
+    }
+
+    // Has nodes wait for lines, unless a plan was found before.
+    fn try_window(&mut self, work: &mut Work, window: u32) {
+        if self.best.is_some() {
+            return;
+        }
+        for count in COUNTS {
+            self.try_waiting(work, count, window);
+        }
+    }
+
+    // Cleans all parts, or all but the last one.
+    fn try_waiting(&mut self, work: &mut Work, count: u32, window: u32) {
+        for kept in [1, 0] {
+            let choice = Choice {
+                count,
+                cleaned: count.saturating_sub(kept),
+                window: Some(window),
+            };
+            let _fits = self.fits(work, choice);
         }
     }
 
@@ -100,44 +159,53 @@ impl Search<'_> {
         }
     }
 
-    // Whether the plan of a choice has few enough lines. Where it is better than those before, it
-    // is the best one.
+    // Whether the plan of a choice has few enough lines, and no more layers than the best one.
+    // Where it is better, it is the best one.
     fn fits(&mut self, work: &mut Work, choice: Choice) -> bool {
         work.spend(self.graph.nodes.len() as u64);
         if work.is_stopped() {
             return false;
         }
-        let demand = self
-            .agenda(work, choice)
-            .demand(work, self.graph, self.times);
-        let fits = demand.lines <= self.most;
-        if fits && self.best.is_none_or(|best| demand < best.demand) {
+        let Some(table) = self.timetable(work, choice) else {
+            return false;
+        };
+        let demand = table.demand;
+        if demand.lines > self.most {
+            return false;
+        }
+        let best = self.best;
+        if best.is_none_or(|best| demand < best.demand) {
             self.best = Some(Found { demand, choice });
         }
-        fits
+        best.is_none_or(|best| demand.layers <= best.demand.layers)
     }
 
-    fn agenda(&self, work: &mut Work, choice: Choice) -> Agenda {
+    fn timetable(&self, work: &mut Work, choice: Choice) -> Option<Timetable> {
         let parts = self.widths.parts(work, choice.count);
         let plan = Plan {
             parts: &parts,
             cleaned: choice.cleaned,
         };
-        let clearing = clearing_of(work, self.graph, self.times, plan);
-        Agenda::of(work, self.graph, self.times, clearing)
-    }
-
-    fn finish(&self, work: &mut Work) -> (Agenda, Demand) {
-        match self.best {
-            Some(found) => (self.agenda(work, found.choice), found.demand),
-            None => {
-                work.give_up();
-                let none = Demand {
-                    toffoli: 0,
-                    lines: 0,
+        let mut clearing = clearing_of(work, self.graph, self.times, plan);
+        let times = match choice.window {
+            Some(window) => {
+                let limit = Limit {
+                    parts: &parts,
+                    most: self.most,
+                    window,
                 };
-                (Agenda::none(work.alloc), none)
+                let (times, off) = schedule_within(work, self.graph, self.times, &clearing, limit)?;
+                clearing.off = off;
+                times
             }
-        }
+            None => self.times.copy(work),
+        };
+        let agenda = Agenda::of(work, self.graph, &times, clearing);
+        let demand = agenda.demand(work, self.graph, &times);
+        Some(Timetable {
+            times,
+            agenda,
+            demand,
+        })
     }
 }

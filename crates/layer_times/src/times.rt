@@ -12,6 +12,8 @@ pub struct Times {
     pub depth: u32,
     /// Of each node its layer, or its boundary where it has no product.
     pub on: Table<u32>,
+    /// Of each node the first boundary at which it is there, with all its bits.
+    pub there: Table<u32>,
     /// Of each node the output onto whose line alone its product goes.
     pub straight: Table<Option<u32>>,
     /// The outputs.
@@ -68,13 +70,34 @@ impl Times {
         let mut times = Times {
             depth,
             on: last_times(work, graph, depth),
+            there: Table::of(Vec::new(work.alloc), 0),
             straight: Table::new(work, graph.nodes.len(), None),
             ends: Vec::new(work.alloc),
         };
         let sums = times.put_straight(work, graph, &levels);
         times.hurry(graph, &levels);
+        times.note_all(work, graph);
         times.put_ends(work, graph, sums);
         times
+    }
+
+    /// The same times once more.
+    pub fn copy(&self, work: &mut Work) -> Times {
+        let mut ends = Vec::new(work.alloc);
+        for end in &self.ends {
+            let end = End {
+                bits: work.copy(&end.bits),
+                boundary: end.boundary,
+            };
+            work.push(&mut ends, end);
+        }
+        Times {
+            depth: self.depth,
+            on: self.on.copy(work),
+            there: self.there.copy(work),
+            straight: self.straight.copy(work),
+            ends,
+        }
     }
 
     // Finds the products that go straight onto lines; what is copied to the line of each output.
@@ -163,6 +186,15 @@ impl Times {
         }
     }
 
+    // Notes when nodes are there.
+    fn note_all(&mut self, work: &mut Work, graph: &LayerGraph) {
+        for place in 0..graph.count() {
+            let behind = u32::from(!graph.is_linear(place));
+            let there = self.on.get(place).saturating_add(behind);
+            self.there.push(work, there);
+        }
+    }
+
     fn put_ends(&mut self, work: &mut Work, graph: &LayerGraph, sums: Vec<Vec<u32>>) {
         for bits in sums {
             let boundary = self.complete(graph, &bits);
@@ -182,8 +214,7 @@ impl Times {
     /// The first boundary at which a symbol is there.
     pub fn there(&self, graph: &LayerGraph, symbol: u32) -> u32 {
         match graph.place(symbol) {
-            Some(place) if graph.is_linear(place) => self.on.get(place),
-            Some(place) => self.on.get(place).saturating_add(1),
+            Some(place) => self.there.get(place),
             None => 0,
         }
     }

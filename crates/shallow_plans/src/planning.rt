@@ -1,6 +1,6 @@
 // The best of the plans in layers.
-use crate::writer::write;
-use layer_times::{Agenda, LayerGraph, Times, best_agenda};
+use crate::writer::{Style, Written, write};
+use layer_times::{LayerGraph, Times, Timetable, best_timetable};
 use line_moves::Moves;
 use plan_tools::{Limits, Stop, Work};
 use std::alloc::Global;
@@ -12,16 +12,17 @@ const MOST_NODES: u32 = 100_000;
 // The most nodes that are looked at in all plans that are tried.
 const MOST_WORK: u64 = 20_000_000;
 
-// The most nodes of a graph for which more lines than are needed are tried.
+// The most nodes of a graph for which more ways to write a plan are tried than those on all lines.
 const FEW_NODES: u32 = 50_000;
 
 /// The moves of a plan in which the Toffoli gates stand in at most twice as many layers as the
-/// graph has levels. Each of its nodes has at most one product, its outputs have none. The lines of
-/// outputs may hold anything: what comes to them are the outputs alone.
+/// graph has levels, or in more where there are too few lines for that. Each node of the graph has
+/// at most one product, its outputs have none. The lines of outputs may hold anything: what comes
+/// to them are the outputs alone.
 ///
-/// Of the plans that are tried it is the one of the fewest Toffoli gates, and then of the fewest
-/// lines. It is written on as many lines as it needs, on a quarter more and on all: of these it is
-/// that of the least lines times the square of depth.
+/// Of the plans that are tried it is the one of the fewest layers, then of the fewest Toffoli
+/// gates, and then of the fewest lines. It is written on as many lines as it needs, and on more: of
+/// these it is that of the least lines times the cube of depth.
 ///
 /// # Errors
 ///
@@ -38,47 +39,77 @@ pub fn plan(alloc: Global, graph: &SumGraph, limits: Limits) -> Result<Moves, St
     };
     work.finish(())?;
     let times = Times::of(&mut work, &graph);
-    let (agenda, demand) = best_agenda(&mut work, &graph, &times, most);
+    let found = best_timetable(&mut work, &graph, &times, most);
     work.finish(())?;
-    let room = Room {
-        least: demand.lines,
-        most,
-    };
-    best_written(alloc, &graph, &times, &agenda, room)
+    match found {
+        Some(table) => best_written(alloc, &graph, &table, most),
+        None => Err(Stop::GaveUp),
+    }
 }
 
-// How many work lines a plan needs, and how many there are.
+// How a timetable is written: on how many lines more than it needs, in sixteenths of these, and
+// where factors stand.
 #[derive(Clone, Copy)]
-struct Room {
-    least: u32,
-    most: u32,
+struct Way {
+    sixteenths: u32,
+    style: Style,
 }
 
-// The least costly of the plans with these layers, on as many lines as are needed or on more.
+// The ways that are tried beside that on as many lines as are needed.
+const WAYS: [Way; 6] = [
+    Way {
+        sixteenths: 0,
+        style: Style::Held,
+    },
+    Way {
+        sixteenths: 0,
+        style: Style::Apart,
+    },
+    Way {
+        sixteenths: 1,
+        style: Style::Apart,
+    },
+    Way {
+        sixteenths: 4,
+        style: Style::Apart,
+    },
+    Way {
+        sixteenths: u32::MAX,
+        style: Style::Held,
+    },
+    Way {
+        sixteenths: u32::MAX,
+        style: Style::Apart,
+    },
+];
+
+// The least costly of the plans of a timetable, on as many lines as it needs or on more.
 fn best_written(
     alloc: Global,
     graph: &LayerGraph,
-    times: &Times,
-    agenda: &Agenda,
-    room: Room,
+    table: &Timetable,
+    most: u32,
 ) -> Result<Moves, Stop> {
     let ports = graph.ports();
-    let mut best = write(
-        alloc,
-        graph,
-        times,
-        agenda,
-        ports.saturating_add(room.least),
-    )?;
-    if graph.count() > FEW_NODES {
-        return Ok(best.moves);
-    }
-    for more in [room.least / 4, room.most] {
-        let lines = room.least.saturating_add(more).min(room.most);
-        let written = write(alloc, graph, times, agenda, ports.saturating_add(lines))?;
-        if written.cost < best.cost {
-            best = written;
+    let least = table.demand.lines;
+    let lines = ports.saturating_add(least);
+    let mut best = write(alloc, graph, table, lines, Style::InPlace)?;
+    for way in WAYS {
+        if graph.count() > FEW_NODES && way.sixteenths < u32::MAX {
+            continue;
         }
+        let more = least.saturating_mul(way.sixteenths) / 16;
+        let lines = ports.saturating_add(least.saturating_add(more).min(most));
+        best = better(best, write(alloc, graph, table, lines, way.style))?;
     }
     Ok(best.moves)
+}
+
+// The less costly of two plans, of which the other one may not have been found.
+fn better(best: Written, other: Result<Written, Stop>) -> Result<Written, Stop> {
+    match other {
+        Ok(other) if other.cost < best.cost => Ok(other),
+        Ok(_) | Err(Stop::GaveUp) => Ok(best),
+        Err(stop) => Err(stop),
+    }
 }

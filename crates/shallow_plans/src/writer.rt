@@ -1,9 +1,20 @@
 // The moves of a plan in layers.
 use layer_lines::Lines;
-use layer_times::{Agenda, Factors, Layer, LayerGraph, Node, Times};
+use layer_times::{Agenda, Factors, Layer, LayerGraph, Node, Times, Timetable, Wants};
 use line_moves::Moves;
 use plan_tools::{Stop, Work, number};
 use std::alloc::Global;
+
+/// Where a factor of several symbols stands of which one is in no other factor of its layer.
+#[derive(Clone, Copy)]
+pub enum Style {
+    /// On the line of that symbol, to which the others are added for the layer.
+    InPlace,
+    /// There, unless a temporary line holds the factor.
+    Held,
+    /// On a temporary line.
+    Apart,
+}
 
 // A Toffoli gate of a layer.
 #[derive(Clone, Copy)]
@@ -15,28 +26,38 @@ struct Gate {
     is_undone: bool,
 }
 
+// A copy onto the line of a symbol that a factor alone has, for the time of a layer.
+#[derive(Clone, Copy)]
+struct Gather {
+    from: u32,
+    onto: u32,
+}
+
 // Moves in the making.
 #[derive(Drop)]
 struct Writer<'w> {
     graph: &'w LayerGraph,
     times: &'w Times,
     agenda: &'w Agenda,
+    style: Style,
     lines: Lines,
     /// The number of the boundary, and of the layer behind it.
     now: u32,
     /// The gates of the layer.
     gates: Vec<Gate>,
+    gathers: Vec<Gather>,
+    wants: Wants,
     work: Work,
 }
 
-/// Moves, and what they cost: lines times the square of depth.
+/// Moves, and what they cost: lines times the cube of depth.
 #[derive(Drop)]
 pub struct Written {
     pub moves: Moves,
     pub cost: u64,
 }
 
-/// The moves of the plan with these layers, on at most `limit` lines.
+/// The moves of the plan of a timetable, on at most `limit` lines.
 ///
 /// # Errors
 ///
@@ -44,18 +65,22 @@ pub struct Written {
 pub fn write(
     alloc: Global,
     graph: &LayerGraph,
-    times: &Times,
-    agenda: &Agenda,
+    table: &Timetable,
     limit: u32,
+    style: Style,
 ) -> Result<Written, Stop> {
+    let mut work = Work::new(alloc, u64::MAX);
     let mut writer = Writer {
         graph,
-        times,
-        agenda,
+        times: &table.times,
+        agenda: &table.agenda,
+        style,
         lines: Lines::new(alloc, graph.inputs, graph.ports(), limit, graph.symbols()),
         now: 0,
         gates: Vec::new(alloc),
-        work: Work::new(alloc, u64::MAX),
+        gathers: Vec::new(alloc),
+        wants: Wants::new(&mut work, graph.symbols()),
+        work,
     };
     writer.write_all();
     writer.finish()
@@ -96,7 +121,7 @@ impl Writer<'_> {
             return;
         }
         let line = self.lines.home(graph.symbol(place));
-        let late = self.bits_by(node, self.now.saturating_sub(1), false);
+        let late = self.bits_by(node, self.times.on.get(place), false);
         self.lines.add(&late, line);
     }
 
@@ -147,10 +172,21 @@ impl Writer<'_> {
         for place in &layer.cleared {
             self.lines.release(*place);
         }
+        self.wants.advance();
+        self.ask_all(&layer.cleared);
+        self.ask_all(&layer.made);
         self.choose_all(&layer.cleared);
         self.choose_all(&layer.made);
         self.write_gates();
         self.leave_all(&layer.cleared);
+    }
+
+    fn ask_all(&mut self, places: &[u32]) {
+        for place in places {
+            if let Some(factors) = self.graph.factors(*place) {
+                self.wants.add(factors);
+            }
+        }
     }
 
     fn choose_all(&mut self, places: &[u32]) {
@@ -166,10 +202,10 @@ impl Writer<'_> {
 
     // Chooses the lines of a node's gate.
     fn choose(&mut self, place: u32, node: &Node, factors: &Factors) {
-        let first = self.lines.control(&factors.first);
-        let second = self.lines.control(&factors.second);
+        let first = self.control(&factors.first);
+        let second = self.control(&factors.second);
         let onto = self.target(place, node);
-        self.lines.note_target(onto);
+        self.lines.note_use(onto);
         let gate = Gate {
             node: place,
             onto,
@@ -177,6 +213,50 @@ impl Writer<'_> {
             is_undone: !self.times.is_straight(place),
         };
         self.work.push(&mut self.gates, gate);
+    }
+
+    // The line of a factor: where no other factor has one of its symbols, that of this symbol, to
+    // which the others are added for the layer.
+    fn control(&mut self, factor: &[u32]) -> u32 {
+        match self.own_line(factor) {
+            Some(onto) if self.is_in_place(factor) => {
+                self.gather(factor, onto);
+                onto
+            }
+            _ => self.lines.control(factor),
+        }
+    }
+
+    fn is_in_place(&mut self, factor: &[u32]) -> bool {
+        match self.style {
+            Style::InPlace => true,
+            Style::Held => !self.lines.is_held(factor),
+            Style::Apart => false,
+        }
+    }
+
+    // Of the lines of the symbols that no other factor has, that which is free the soonest.
+    fn own_line(&self, factor: &[u32]) -> Option<u32> {
+        let mut best = None;
+        let mut least = u32::MAX;
+        for symbol in factor {
+            let line = self.lines.home(*symbol);
+            if factor.len() > 1 && self.wants.is_own(*symbol) && self.lines.load(line) < least {
+                best = Some(line);
+                least = self.lines.load(line);
+            }
+        }
+        best
+    }
+
+    fn gather(&mut self, factor: &[u32], onto: u32) {
+        self.lines.note_use(onto);
+        for symbol in factor {
+            let from = self.lines.home(*symbol);
+            if from != onto {
+                self.work.push(&mut self.gathers, Gather { from, onto });
+            }
+        }
     }
 
     // The line of a node, or that of the output onto which it goes; where it is made, it takes one,
@@ -193,11 +273,21 @@ impl Writer<'_> {
     }
 
     fn write_gates(&mut self) {
+        self.write_gathers();
         for gate in &self.gates {
             self.lines
                 .toggle(gate.node, gate.onto, gate.controls, gate.is_undone);
         }
         self.gates.clear();
+        self.lines.advance(self.now.saturating_add(1));
+        self.write_gathers();
+        self.gathers.clear();
+    }
+
+    fn write_gathers(&mut self) {
+        for gather in &self.gathers {
+            self.lines.copy(gather.from, gather.onto, true);
+        }
     }
 
     // The lines of nodes that were cleared hold their bits.
