@@ -19,7 +19,7 @@ class Circuit(NamedTuple):
     outputs: Sequence[int]
     compute: Callable[..., Tuple[int, ...]]
     title: str = ""  # in the table of docs/GALLERY.md, where it stands there
-    lines: Sequence[int] = ()  # budgets that are shown there, beside those without a limit
+    lines: Sequence[int] = ()  # budgets that are tried too, beside those without a limit
     unrolled: str = ""  # the program that its loops stand for, and whose circuits it has
 
     @property
@@ -34,9 +34,12 @@ class Circuit(NamedTuple):
         """The output bits for the input bits."""
         return digits(self.compute(*numbers(word, self.inputs)), self.outputs)
 
+    def plans(self) -> List[List[str]]:
+        """The options that the table shows."""
+        return [["--plan", plan] for plan in ("compact", "lean", "shallow", "eager", "pebble")]
+
     def options(self) -> List[List[str]]:
-        plans = [["--plan", plan] for plan in ("compact", "lean", "shallow", "eager", "pebble")]
-        return plans + [["--plan", "pebble", "--lines", str(lines)] for lines in self.lines]
+        return self.plans() + [["--plan", "pebble", "--lines", str(lines)] for lines in self.lines]
 
 
 # ---- Numbers and bits
@@ -126,14 +129,14 @@ CIRCUITS = [
     Circuit("grain", [5], [1], grain),
     Circuit("majority", [1, 1, 1], [1], majority, "majority of three bits", [7]),
     Circuit("comparator", [3, 3], [1, 1], compared, "comparator of three bits", [16]),
-    Circuit("adder8", [8, 8], [9], added, "ripple adder of eight bits", [46]),
-    Circuit("multiplier4", [4, 4], [8], multiplied, "multiplier, four by four bits", [54]),
+    Circuit("adder8", [8, 8], [9], added, "ripple adder of eight bits", [54, 46]),
+    Circuit("multiplier4", [4, 4], [8], multiplied, "multiplier, four by four bits", [67, 54]),
     Circuit("chi5", [5], [5], chi, "a row of Keccak's chi", [20]),
-    Circuit("chi100", [100], [100], chi_of_rows, "Keccak's chi, five by five lanes of four bits", [350]),
+    Circuit("chi100", [100], [100], chi_of_rows, "Keccak's chi, five by five lanes of four bits", [400, 350]),
     Circuit("adder_loop", [8, 8], [9], added, unrolled="adder8"),
     Circuit("multiplier_loop", [4, 4], [8], multiplied, unrolled="multiplier4"),
     Circuit("chi_loop", [100], [100], chi_of_rows, unrolled="chi100"),
-    Circuit("present", [4], [4], present, "S-box of PRESENT", [26]),
-    Circuit("speck", [16, 16, 16], [16, 16], speck, "a round of Speck32/64", [142]),
-    Circuit("sha256", [32] * 9, [32] * 8, sha256, "a round of SHA-256", [831]),
+    Circuit("present", [4], [4], present, "S-box of PRESENT", [32, 26]),
+    Circuit("speck", [16, 16, 16], [16, 16], speck, "a round of Speck32/64", [156, 142]),
+    Circuit("sha256", [32] * 9, [32] * 8, sha256, "a round of SHA-256", [1312, 994, 831]),
 ]
