@@ -34,12 +34,9 @@ class Circuit(NamedTuple):
         """The output bits for the input bits."""
         return digits(self.compute(*numbers(word, self.inputs)), self.outputs)
 
-    def plans(self) -> List[List[str]]:
-        """The options that the table shows."""
-        return [["--plan", plan] for plan in ("compact", "lean", "shallow", "eager", "pebble")]
-
     def options(self) -> List[List[str]]:
-        return self.plans() + [["--plan", "pebble", "--lines", str(lines)] for lines in self.lines]
+        plans = [["--plan", plan] for plan in ("compact", "lean", "shallow", "eager", "pebble")]
+        return plans + [["--plan", "pebble", "--lines", str(lines)] for lines in self.lines]
 
 
 # ---- Numbers and bits
