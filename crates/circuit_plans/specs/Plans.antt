@@ -7,6 +7,8 @@ use Rattle.mct_circuit.specs.Gates.{GateView, CircuitView, AreGatesOn, AreNarrow
 use Rattle.mct_circuit.specs.Sizes.{counts_of, weight_in}
 use Rattle.circuit_plans.specs.declared.choice.Plan.{Plan}
 use Rattle.circuit_plans.specs.declared.choice.Plan.TheVariants.{Auto, Compact, Eager, Lean, Pebble, Shallow}
+use Rattle.circuit_plans.specs.declared.roles.Placing.{Placing}
+use Rattle.circuit_plans.specs.declared.roles.Placing.TheVariants.{Added, InPlace}
 use Rattle.circuit_plans.specs.declared.roles.Roles.{Roles}
 use Rattle.circuit_plans.specs.declared.roles.Role.{Role}
 use Rattle.circuit_plans.specs.declared.size.Size.{Size}
@@ -144,6 +146,31 @@ AddedOutputsArePut =
     (start : Start) (roles : Roles) (gates : List GateView) (value : List Bool → List Bool)
     → AddsOutputs start roles gates value
     → MapsCleanly roles gates value
+
+-- ---- circuits in place
+
+-- the gates take this input, zeros on the output and work lines, and these bits on the borrowed
+-- lines to these outputs, zeros on the work lines, and the same bits
+pub record ReplacesInput (roles : Roles) (gates : List GateView)
+    (input outputs borrowed : List Bool) : Type 0 where
+  pub mapped :
+      line_map gates (input ++ (zeros roles.outputs ++ (zeros roles.work ++ borrowed)))
+      ≡ outputs ++ (zeros roles.work ++ borrowed)
+
+-- the program has an output for each input line and each output line, and on every input, whatever
+-- the borrowed lines hold, the gates put its value on these lines, and leave all others as they are
+pub record ReplacesInputs (roles : Roles) (gates : List GateView)
+    (value : List Bool → List Bool) : Type 0 where
+  pub size : (input : List Bool) → length input ≡ roles.inputs
+      → length (value input) ≡ roles.inputs + roles.outputs
+  pub replaces : (input borrowed : List Bool) → length input ≡ roles.inputs
+      → length borrowed ≡ roles.borrowed
+      → ReplacesInput roles gates input (value input) borrowed
+
+-- the gates put the outputs there
+abbrev pub PlacesOutputs : Placing → Roles → List GateView → (List Bool → List Bool) → Type 0
+PlacesOutputs (Added start) roles gates value = AddsOutputs start roles gates value
+PlacesOutputs InPlace roles gates value = ReplacesInputs roles gates value
 
 -- ---- plans within a budget
 

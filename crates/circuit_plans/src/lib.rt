@@ -15,5 +15,5 @@ pub use narrow::Narrow;
 pub use plan::{
     Budget, Laid, MOST_BORROWED, MOST_GATES, MOST_LINES, PlanFault, Planned, limits_are,
 };
-pub use roles::{Role, Roles, Start};
+pub use roles::{Placing, Role, Roles, Start};
 pub use size::Size;

@@ -23,6 +23,16 @@ pub enum Start {
     Zero,
 }
 
+/// Where a circuit puts the outputs of its program.
+#[derive(Clone, Copy, PartialEq, Eq)]
+pub enum Placing {
+    /// They are added to output lines, which may hold before the gates what the start lets them.
+    Added(Start),
+    /// They take the place of the inputs: the first ones on the input lines, and those beyond the
+    /// number of inputs on output lines, which hold zeros before the gates.
+    InPlace,
+}
+
 /// The role of a line.
 #[derive(Clone, Copy)]
 pub enum Role {
