@@ -4,18 +4,18 @@ ghost use Rattle.std.specs.Prelude.{◌≡◌, IfOk};
 use linear_forms::Form;
 use revc_base::Memory;
 
-// Two factors, and the sum that is their product.
+/// Two factors, and the sum that is their product.
 #[derive(Drop)]
 pub struct Known {
     pub first: Form,
     pub second: Form,
     pub value: Form,
-    // Whether the value is an atom that was made for this product.
+    /// Whether the value is an atom that was made for this product.
     pub made: bool,
 }
 
 impl Known {
-    // How many words it holds.
+    /// How many words it holds.
     pub fn len(&self) -> usize {
         let factors = self.first.len().saturating_add(self.second.len());
         factors.saturating_add(self.value.len())

@@ -18,4 +18,5 @@ mod search;
 
 pub use budget::limits_are;
 pub use fault::ProductsFault;
+pub use known::Known;
 pub use products::Products;

@@ -81,32 +81,34 @@ impl Products {
         Ok(first.plus(second)?)
     }
 
-    /// The product of both: known, or the sum of known products, or an atom of its own.
-    ///
-    /// # Errors
-    /// `Limit` where the atoms, the steps or the words held pass their limit, and `Memory`.
-    pub fn product(&mut self, first: &Form, second: &Form) -> Result<Form, ProductsFault>
-        requires first { IsDetermined self.old first.now }
-        requires second { IsDetermined self.old second.now }
-        ensures extends { Extends self.old self.new }
-        ensures product { IfOk result (IsProduct self.new first.now second.now) }
-        ensures determined { IfOk result (IsDetermined self.new) }
-    {
-        self.found_or_made(first, second)
+    /// How many products are known.
+    pub fn count(&self) -> usize {
+        self.known.len()
     }
 
-    fn found_or_made(&mut self, first: &Form, second: &Form) -> Result<Form, ProductsFault>
-        requires first { IsDetermined self.old first.now }
-        requires second { IsDetermined self.old second.now }
-        ensures extends { Extends self.old self.new }
-        ensures product { IfOk result (IsProduct self.new first.now second.now) }
+    /// The known product at a place: its factors and its value.
+    pub fn known(&self, place: usize) -> Option<&Known>
+        ensures { IfSome result (λ known.
+            IsProduct self.now known.now.first known.now.second known.now.value) }
+    {
+        self.known.get(place)
+    }
+
+    /// The product of both, where it is known or the sum of known products.
+    ///
+    /// # Errors
+    /// `Limit` where the steps or the words held pass their limit, and `Memory`.
+    pub fn found(&mut self, first: &Form, second: &Form) -> Result<Option<Form>, ProductsFault>
+        ensures product { IfOk result (λ found.
+            IfSome found (IsProduct self.new first.now second.now)) }
+        ensures same { self.new ≡ self.old }
     {
         if let Some(value) = self.recalled(first, second)? {
-            return Ok(value);
+            return Ok(Some(value));
         }
         match self.searched(first, second)? {
-            Some(value) => self.kept(first, second, value),
-            None => self.made(first, second),
+            Some(value) => self.keep(first, second, value).map(Some),
+            None => Ok(None),
         }
     }
 
@@ -134,8 +136,11 @@ impl Products {
         searched(&self.known, first, second, &self.index, &mut self.budget)
     }
 
-    // The product's value, which is known from here on.
-    fn kept(&mut self, first: &Form, second: &Form, value: Form) -> Result<Form, ProductsFault>
+    /// The product's value, which is known from here on.
+    ///
+    /// # Errors
+    /// `Memory`.
+    pub fn keep(&mut self, first: &Form, second: &Form, value: Form) -> Result<Form, ProductsFault>
         requires { IsProduct self.old first.now second.now value }
         ensures same { self.new ≡ self.old }
         ensures value { IfOk result (λ kept. kept ≡ value) }
@@ -147,8 +152,11 @@ impl Products {
         Ok(value)
     }
 
-    // An atom that stands for the product from here on.
-    fn made(&mut self, first: &Form, second: &Form) -> Result<Form, ProductsFault>
+    /// An atom that stands for the product from here on.
+    ///
+    /// # Errors
+    /// `Limit` where the atoms pass their limit, and `Memory`.
+    pub fn make(&mut self, first: &Form, second: &Form) -> Result<Form, ProductsFault>
         requires first { IsDetermined self.old first.now }
         requires second { IsDetermined self.old second.now }
         ensures extends { Extends self.old self.new }

@@ -1,5 +1,5 @@
 use Rattle.product_sums.proofs.RecordLemmas.{pushed_made}
-use Rattle.product_sums.proofs.products.Products.made.Goals as goal
+use Rattle.product_sums.proofs.products.Products.make.Goals as goal
 
 pub invariant_of-self-2 : goal.invariant_of-self-2
 invariant_of-self-2 c =

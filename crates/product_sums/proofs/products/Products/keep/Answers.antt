@@ -1,5 +1,5 @@
 use Rattle.product_sums.proofs.RecordLemmas.{pushed_sum}
-use Rattle.product_sums.proofs.products.Products.kept.Goals as goal
+use Rattle.product_sums.proofs.products.Products.keep.Goals as goal
 
 pub invariant_of-self-2 : goal.invariant_of-self-2
 invariant_of-self-2 c =
