@@ -1,0 +1,262 @@
+// Products that cuts decide.
+ghost use Rattle.std.specs.Prelude.{◌≡◌, IfOk, IfSome, true};
+ghost use Rattle.product_sums.specs.Products.{IsProduct, ProductsView};
+ghost use Rattle.sum_cuts.specs.Cuts.{AreOverCut, IsZero};
+ghost use Rattle.cut_sweeping.specs.inside.Cuts.{HoldsCuts};
+ghost use Rattle.cut_sweeping.specs.inside.Regions.{AreRegions};
+
+use crate::regions::{Region, begun, is_zero_over, join_all, product_over, take_out};
+use crate::zeros::Zeros;
+use cut_search::{Atoms, Basis, FAR, Gone, Guide, Member, NEAR, Place, Range, Scene, places_of};
+use linear_forms::Form;
+use plan_tools::{Stop, Work};
+use product_sums::Products;
+use revc_base::Memory;
+use std::alloc::Global;
+
+/// Fewer sums than these are no cut that is tried.
+const LEAST_SUMS: usize = 3;
+
+/// The most regions that are kept, and the most functions of all of them.
+const MOST_REGIONS: usize = 4096;
+
+const MOST_FUNCTIONS: usize = 200_000;
+
+/// Cuts that were met, and what they told.
+#[derive(Drop)]
+pub struct Cuts {
+    pub atoms: Atoms,
+    pub work: Work,
+    pub regions: Vec<Region>,
+    pub zeros: Zeros,
+    functions: usize,
+}
+
+impl Cuts {
+    /// No cut, where so many atoms are given. The search may take so many units.
+    pub fn new(alloc: Global, given: u32, most: u64) -> Cuts
+        ensures { (t : ProductsView) → HoldsCuts t result }
+    {
+        let mut work = Work::new(alloc, most);
+        let atoms = Atoms::new(&mut work, given);
+        Cuts {
+            atoms,
+            work,
+            regions: Vec::new(alloc),
+            zeros: Zeros::new(alloc),
+            functions: 0,
+        }
+    }
+
+    /// The last atom stands for the product at this place of the table.
+    pub fn note(&mut self, products: &Products, place: usize)
+        ensures { (t : ProductsView) → HoldsCuts t self.old → HoldsCuts t self.new }
+    {
+        let Some(known) = products.known(place) else {
+            return;
+        };
+        self.atoms.note(&mut self.work, place, known);
+    }
+
+    /// The product of two sums, where a narrow cut tells it.
+    pub fn product(
+        &mut self,
+        products: &Products,
+        first: &Form,
+        second: &Form,
+    ) -> Result<Option<Form>, Memory>
+        requires { HoldsCuts products.now self.old }
+        ensures cuts { HoldsCuts products.now self.new }
+        ensures product { IfOk result (λ found. IfSome found
+            (IsProduct products.now first.now second.now)) }
+    {
+        let places = tried(
+            &mut self.work,
+            products,
+            &self.atoms,
+            &[first, second],
+            NEAR,
+        );
+        for place in places.iter().rev() {
+            if let Some(sum) = self.product_at(products, place, first, second)? {
+                return Ok(Some(sum));
+            }
+        }
+        self.refused()?;
+        Ok(None)
+    }
+
+    fn product_at(
+        &mut self,
+        products: &Products,
+        place: &Place,
+        first: &Form,
+        second: &Form,
+    ) -> Result<Option<Form>, Memory>
+        requires { HoldsCuts products.now self.old }
+        ensures cuts { HoldsCuts products.now self.new }
+        ensures product { IfOk result (λ found. IfSome found
+            (IsProduct products.now first.now second.now)) }
+    {
+        let Some(region) = self.region(products, place, &[first, second])? else {
+            return Ok(None);
+        };
+        let sum = product_over(&mut self.work, &region, first, second)?;
+        self.keep(region)?;
+        Ok(sum)
+    }
+
+    /// Whether a sum is 0, as a narrow cut tells.
+    pub fn is_zero(&mut self, products: &Products, sum: &Form) -> Result<bool, Memory>
+        requires { HoldsCuts products.now self.old }
+        ensures cuts { HoldsCuts products.now self.new }
+        ensures zero { IfOk result (λ is. is ≡ true → IsZero products.now sum.now) }
+    {
+        let places = tried(&mut self.work, products, &self.atoms, &[sum], FAR);
+        for place in places.iter().rev() {
+            if self.is_zero_at(products, place, sum)? {
+                return Ok(true);
+            }
+        }
+        self.refused()?;
+        Ok(false)
+    }
+
+    fn is_zero_at(&mut self, products: &Products, place: &Place, sum: &Form) -> Result<bool, Memory>
+        requires { HoldsCuts products.now self.old }
+        ensures cuts { HoldsCuts products.now self.new }
+        ensures zero { IfOk result (λ is. is ≡ true → IsZero products.now sum.now) }
+    {
+        let Some(region) = self.region(products, place, &[sum])? else {
+            return Ok(false);
+        };
+        let is = is_zero_over(&mut self.work, &region, sum)?;
+        self.keep(region)?;
+        Ok(is)
+    }
+
+    // Want of memory, where the search met that.
+    fn refused(&self) -> Result<(), Memory> {
+        match self.work.finish(()) {
+            Err(Stop::Memory(memory)) => Err(memory),
+            _ => Ok(()),
+        }
+    }
+
+    // The region of a cut, with all that is known of it. It is taken out.
+    fn region(
+        &mut self,
+        products: &Products,
+        place: &Place,
+        goals: &[&Form],
+    ) -> Result<Option<Region>, Memory>
+        requires { HoldsCuts products.now self.old }
+        ensures cuts { HoldsCuts products.now self.new }
+        ensures region { IfOk result (λ found. IfSome found (λ region.
+            AreOverCut products.now region.cut)) }
+    {
+        let Some(mut region) = self.found(products, place, goals)? else {
+            return Ok(None);
+        };
+        let members = fresh(
+            &mut self.work,
+            products,
+            &self.atoms,
+            &self.zeros.gone,
+            &mut region.guide,
+            place,
+        );
+        join_all(&mut self.work, products, &mut region, &members)?;
+        let relations = region.guide.fetch(&self.work);
+        self.zeros
+            .learn_all(&mut self.work, &region.cut, &relations)?;
+        Ok(Some(region))
+    }
+
+    // The region of a cut as it was left, or a new one.
+    fn found(
+        &mut self,
+        products: &Products,
+        place: &Place,
+        goals: &[&Form],
+    ) -> Result<Option<Region>, Memory>
+        requires { HoldsCuts products.now self.old }
+        ensures cuts { HoldsCuts products.now self.new }
+        ensures region { IfOk result (λ found. IfSome found (λ region.
+            AreOverCut products.now region.cut)) }
+    {
+        let scene = Scene {
+            products,
+            atoms: &self.atoms,
+        };
+        let basis = Basis::of(&mut self.work, scene, place, goals);
+        if basis.leads.len() < LEAST_SUMS {
+            return Ok(None);
+        }
+        match take_out(&mut self.regions, &basis) {
+            Some(region) => Ok(Some(region)),
+            None => begun(&mut self.work, &basis, place),
+        }
+    }
+
+    // Keeps a region.
+    fn keep(&mut self, mut region: Region) -> Result<(), Memory>
+        ensures { (t : ProductsView) → AreOverCut t region.cut → HoldsCuts t self.old
+            → HoldsCuts t self.new }
+    {
+        make_room(&mut self.regions, &mut self.functions);
+        self.functions = self.functions.saturating_add(region.guide.grown());
+        self.regions.push(region)?;
+        Ok(())
+    }
+}
+
+// Lets all regions go, where there are many.
+fn make_room(regions: &mut Vec<Region>, functions: &mut usize)
+    ensures { (t : ProductsView) → AreRegions t regions.old.items
+        → AreRegions t regions.new.items }
+{
+    if regions.len() < MOST_REGIONS && *functions <= MOST_FUNCTIONS {
+        return;
+    }
+    regions.clear();
+    *functions = 0;
+}
+
+// The cuts that are tried.
+fn tried(
+    work: &mut Work,
+    products: &Products,
+    atoms: &Atoms,
+    goals: &[&Form],
+    range: Range,
+) -> Vec<Place> {
+    if work.is_stopped() {
+        return Vec::new(work.alloc);
+    }
+    places_of(work, Scene { products, atoms }, goals, range)
+}
+
+// The atoms that may be new functions of a region.
+fn fresh(
+    work: &mut Work,
+    products: &Products,
+    atoms: &Atoms,
+    gone: &Gone,
+    guide: &mut Guide,
+    place: &Place,
+) -> Vec<Member> {
+    let fresh = guide.fresh(work, Scene { products, atoms }, &place.inside);
+    let mut members = Vec::new(work.alloc);
+    for atom in &fresh {
+        if let Some(made) = atoms.made(*atom) {
+            let member = Member {
+                atom: *atom,
+                place: made.place,
+                is_gone: gone.has(*atom),
+            };
+            work.push(&mut members, member);
+        }
+    }
+    members
+}

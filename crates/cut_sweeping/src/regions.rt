@@ -1,0 +1,152 @@
+// Narrow cuts with the functions of them that are known.
+ghost use Rattle.std.specs.Prelude.{◌≡◌, IfOk, IfSome, true};
+ghost use Rattle.std.specs.List.{AllByRecursion};
+ghost use Rattle.product_sums.specs.Products.{IsProduct, ProductsView};
+ghost use Rattle.sum_cuts.specs.Cuts.{AreOverCut, IsZero};
+ghost use Rattle.cut_sweeping.specs.inside.Regions.{AreRegions, TakesRegion};
+
+use cut_search::{Basis, Guide, Member, Place};
+use linear_forms::Form;
+use plan_tools::Work;
+use product_sums::Products;
+use revc_base::Memory;
+use sum_cuts::{Cut, MOST_SUMS};
+
+/// A cut, and where to look for its functions.
+#[derive(Drop)]
+pub struct Region {
+    pub cut: Cut,
+    pub guide: Guide,
+}
+
+/// Takes the region of a cut out, where there is one.
+pub fn take_out(regions: &mut Vec<Region>, basis: &Basis) -> Option<Region>
+    ensures { (t : ProductsView) → AreRegions t regions.old.items
+        → TakesRegion t regions.new.items result }
+{
+    let at = place_of(regions, basis)?;
+    if at >= regions.len() {
+        return None;
+    }
+    Some(regions.swap_remove(at))
+}
+
+// The place of the region of a cut, those used last first.
+fn place_of(regions: &[Region], basis: &Basis) -> Option<usize> {
+    for at in (0..regions.len()).rev() {
+        if is_of(&regions[at].cut, basis) {
+            return Some(at);
+        }
+    }
+    None
+}
+
+// Whether a cut has these sums.
+fn is_of(cut: &Cut, basis: &Basis) -> bool {
+    if cut.sums.len() != basis.leads.len() {
+        return false;
+    }
+    for lead in &basis.leads {
+        if !cut.sums.iter().any(|sum| sum.is_alike(&lead.form)) {
+            return false;
+        }
+    }
+    true
+}
+
+/// The region of a new cut.
+pub fn begun(work: &mut Work, basis: &Basis, place: &Place) -> Result<Option<Region>, Memory>
+    ensures { IfOk result (λ found. IfSome found (λ region. (t : ProductsView)
+        → AreOverCut t region.cut)) }
+{
+    let mut sums = Vec::new(work.alloc);
+    for lead in &basis.leads {
+        sums.push(lead.form.copy()?)?;
+    }
+    if sums.len() > MOST_SUMS {
+        return Ok(None);
+    }
+    let cut = Cut::new(sums)?;
+    let guide = Guide::new(work, &cut, basis, place);
+    Ok(Some(Region { cut, guide }))
+}
+
+/// Takes the values of the products for which these atoms stand in as functions, where they are.
+pub fn join_all(
+    work: &mut Work,
+    products: &Products,
+    region: &mut Region,
+    members: &[Member],
+) -> Result<(), Memory>
+    requires { AreOverCut products.now region.old.cut }
+    ensures { AreOverCut products.now region.new.cut }
+{
+    for member in members {
+        join(work, products, region, *member)?;
+    }
+    Ok(())
+}
+
+fn join(
+    work: &mut Work,
+    products: &Products,
+    region: &mut Region,
+    member: Member,
+) -> Result<(), Memory>
+    requires { AreOverCut products.now region.old.cut }
+    ensures { AreOverCut products.now region.new.cut }
+{
+    if region.guide.is_full() || work.is_stopped() {
+        return Ok(());
+    }
+    let Some(known) = products.known(member.place) else {
+        return Ok(());
+    };
+    let Some(first) = region.guide.reading(work, &region.cut, &known.first) else {
+        return Ok(());
+    };
+    let Some(second) = region.guide.reading(work, &region.cut, &known.second) else {
+        return Ok(());
+    };
+    let at = region.cut.functions.len();
+    if let Some(table) = region.cut.join(known, &first, &second)? {
+        region.guide.enter(work, member, at, &table);
+    }
+    Ok(())
+}
+
+/// The product of two forms, where it is a sum of functions of a region.
+pub fn product_over(
+    work: &mut Work,
+    region: &Region,
+    first: &Form,
+    second: &Form,
+) -> Result<Option<Form>, Memory>
+    ensures { IfOk result (λ found. IfSome found (λ sum. (t : ProductsView)
+        → AreOverCut t region.now.cut → IsProduct t first.now second.now sum)) }
+{
+    let Some(one) = region.guide.reading(work, &region.cut, first) else {
+        return Ok(None);
+    };
+    let Some(other) = region.guide.reading(work, &region.cut, second) else {
+        return Ok(None);
+    };
+    let Some(table) = region.cut.product_table(first, &one, second, &other)? else {
+        return Ok(None);
+    };
+    let Some(places) = region.guide.sum_of(work, &table) else {
+        return Ok(None);
+    };
+    region.cut.form_of(&table, &places)
+}
+
+/// Whether a form is 0 as a function of a region.
+pub fn is_zero_over(work: &mut Work, region: &Region, form: &Form) -> Result<bool, Memory>
+    ensures { IfOk result (λ is. is ≡ true → (t : ProductsView) → AreOverCut t region.now.cut
+        → IsZero t form.now) }
+{
+    let Some(places) = region.guide.reading(work, &region.cut, form) else {
+        return Ok(false);
+    };
+    region.cut.is_zero(form, &places)
+}

@@ -1,0 +1,102 @@
+// Sums that are 0, so that atoms may be left out of others.
+ghost use Rattle.std.specs.Prelude.{◌≡◌, IfOk, IfSome};
+ghost use Rattle.product_sums.specs.Products.{ProductsView};
+ghost use Rattle.sum_cuts.specs.Cuts.{AreEqualSums, AreOverCut, IsZero};
+ghost use Rattle.cut_sweeping.specs.inside.Zeros.{AreZeros};
+
+use cut_search::{Gone, Relation, has_atom, members};
+use linear_forms::Form;
+use plan_tools::Work;
+use revc_base::Memory;
+use std::alloc::Global;
+use sum_cuts::Cut;
+
+/// The most sums that are added to leave atoms out of one.
+const MOST_STEPS: usize = 4096;
+
+/// Sums that are 0 wherever atoms have the values of their products. For each one an atom of it is
+/// left out of other sums.
+#[derive(Drop)]
+pub struct Zeros {
+    pub forms: Vec<Form>,
+    pub gone: Gone,
+}
+
+impl Zeros {
+    pub fn new(alloc: Global) -> Zeros
+        ensures { (t : ProductsView) → AreZeros t result }
+    {
+        Zeros {
+            forms: Vec::new(alloc),
+            gone: Gone::new(alloc),
+        }
+    }
+
+    /// An equal sum with such atoms left out.
+    pub fn normal(&self, form: &Form) -> Result<Form, Memory>
+        ensures { IfOk result (λ sum. (t : ProductsView) → AreZeros t self.now
+            → AreEqualSums t form.now sum) }
+    {
+        let mut sum = form.copy()?;
+        for _step in 0..MOST_STEPS {
+            let Some(zero) = self.next(&sum) else {
+                return Ok(sum);
+            };
+            sum = sum.plus(zero)?;
+        }
+        Ok(sum)
+    }
+
+    // A sum that is 0, for which an atom of this one is left out.
+    fn next(&self, form: &Form) -> Option<&Form>
+        ensures { IfSome result (λ zero. (t : ProductsView) → AreZeros t self.now
+            → IsZero t zero.now) }
+    {
+        let place = self.gone.place_in(form)?;
+        self.forms.get(place)
+    }
+
+    /// Takes in what relations of the functions of a cut say.
+    pub fn learn_all(
+        &mut self,
+        work: &mut Work,
+        cut: &Cut,
+        relations: &[Relation],
+    ) -> Result<(), Memory>
+        ensures { (t : ProductsView) → AreOverCut t cut.now → AreZeros t self.old
+            → AreZeros t self.new }
+    {
+        for relation in relations {
+            self.learn(work, cut, *relation)?;
+        }
+        Ok(())
+    }
+
+    fn learn(&mut self, work: &mut Work, cut: &Cut, relation: Relation) -> Result<(), Memory>
+        ensures { (t : ProductsView) → AreOverCut t cut.now → AreZeros t self.old
+            → AreZeros t self.new }
+    {
+        let atom = relation.atom;
+        let Some(zero) = self.zero(work, cut, relation)? else {
+            return Ok(());
+        };
+        if self.gone.has(atom) || !has_atom(&zero, atom) {
+            return Ok(());
+        }
+        self.gone.put(work, atom, self.forms.len());
+        self.forms.push(zero)?;
+        Ok(())
+    }
+
+    // The sum that a relation says to be 0.
+    fn zero(&self, work: &mut Work, cut: &Cut, relation: Relation) -> Result<Option<Form>, Memory>
+        ensures { IfOk result (λ found. IfSome found (λ form. (t : ProductsView)
+            → AreOverCut t cut.now → AreZeros t self.now → IsZero t form)) }
+    {
+        let places = members(work, &relation.set);
+        let Some(zero) = cut.zero(&places)? else {
+            return Ok(None);
+        };
+        self.normal(&zero).map(Some)
+    }
+}
