@@ -4,7 +4,7 @@ use Rattle.std.specs.Bool.{xor}
 use Rattle.std.proofs.lemmas.List.{ext_get_or, get_or-append_right, get_or_append_left, length-map, length-take-le}
 use Rattle.std.proofs.lemmas.Simd.{get_or-zip2}
 use Rattle.list_facts.specs.Bits.{bit_of, zeros}
-use Rattle.linear_forms.specs.Forms.{FormView, IsSum, form_value}
+use Rattle.linear_forms.specs.Forms.{FormView, IsSum}
 use Rattle.product_sums.specs.Products.{HasValuations, ProductsView}
 use Rattle.claim_check.specs.Settled.{settled_outputs, settled_value}
 use Rattle.mct_circuit.specs.Gates.{AreGatesOn, line_map}
@@ -15,6 +15,7 @@ use Rattle.circuit_verify.specs.Comparisons.{wanted_on, work_lines}
 use Rattle.circuit_verify.specs.Verdicts.{IsRight, IsVerified}
 use Rattle.circuit_verify.proofs.StepLemmas.{length-output_bits, length-wanted, length-wanted_bits, wanted_bit, wanted_bits}
 use Rattle.circuit_verify.proofs.VerdictLemmas.{agrees_where, length-start_on}
+use Rattle.sum_cuts.specs.Cuts.{AreEqualSums}
 use Rattle.sum_verify.specs.inside.Forms.{AreFormsOf, HasVariables, IsFormOf, IsStartForm, IsUnder, form_at}
 use Rattle.sum_verify.proofs.FormLemmas.{form_in}
 
@@ -110,15 +111,15 @@ some_valuation q t bits variables has are =
       },
     )
 
--- a line whose form is that which it should have is right
+-- a line whose form equals that which it should have is right
 pub right_line : (v : ComparedView) (t : ProductsView) (lines : List FormView) (line : ℕ) (f : FormView) → HasVariables (comparison v) t → HasValuations t
     → AreFormsOf (comparison v) t v.circuit.lines lines (λ bits. line_map v.circuit.gates (start_on (comparison v) bits)) → line < v.circuit.lines
-    → form_at lines line ≡ f → IsFormOf (comparison v) t f (λ bits. bit_of (wanted_on (comparison v) bits) line) → IsRight (comparison v) line
+    → AreEqualSums t (form_at lines line) f → IsFormOf (comparison v) t f (λ bits. bit_of (wanted_on (comparison v) bits) line) → IsRight (comparison v) line
 right_line v t lines line f variables has are low same wanted bits size =
     let q = comparison v in
     let some = some_valuation q t bits variables has size in
     sym ((form_in q t v.circuit.lines line lines (λ z. line_map v.circuit.gates (start_on q z)) are low).same bits some.0 some.1)
-    ∙ ap (form_value some.0) same
+    ∙ same some.0 some.1.respects
     ∙ wanted.same bits some.0 some.1
 
 -- where all lines are right, the circuit agrees

@@ -11,15 +11,15 @@ ghost use Rattle.sum_verify.specs.inside.Forms.{AreFormsOf, HasVariables, IsForm
 use crate::fault::FormsFault;
 use crate::start::start_form;
 use circuit_verify::Compared;
+use cut_sweeping::Sweep;
 use linear_forms::Form;
-use product_sums::Products;
 use std::alloc::Global;
 
 // The form that a line should have behind the gates: that of an output line is the output added to
 // what the line held.
 fn wanted_form(
     alloc: Global,
-    products: &mut Products,
+    products: &mut Sweep,
     compared: &Compared,
     outputs: &[Form],
     line: u32,
@@ -41,17 +41,10 @@ fn wanted_form(
     Ok(products.sum(&start, &outputs[(line - inputs) as usize])?)
 }
 
-// Whether two forms are the same sum.
-fn is_same(left: &Form, right: &Form) -> bool
-    ensures { result ≡ true → left.now ≡ right.now }
-{
-    left.one() == right.one() && left.is_alike(right)
-}
-
 // The circuit is verified, where each line has the form that it should have.
 pub fn judge(
     alloc: Global,
-    products: &mut Products,
+    products: &mut Sweep,
     compared: &Compared,
     outputs: &[Form],
     lines: &[Form],
@@ -69,7 +62,8 @@ pub fn judge(
     products.valuations();
     for (line, form) in lines.iter().enumerate() {
         let wanted = wanted_form(alloc, products, compared, outputs, line as u32)?;
-        if !is_same(form, &wanted) {
+        let is_right = products.are_equal(form, &wanted)?;
+        if !is_right {
             return Err(FormsFault::Unsettled);
         }
     }

@@ -12,9 +12,9 @@ ghost use Rattle.sum_verify.specs.inside.Nodes.{KeepsForms, base_form};
 use crate::fault::FormsFault;
 use circuit_verify::Compared;
 use claim_check::Settled;
+use cut_sweeping::Sweep;
 use dependency_graph::{Base, Node};
 use linear_forms::Form;
-use product_sums::Products;
 use std::alloc::Global;
 
 // The form of a base. One that was let go leaves the circuit unsettled.
@@ -34,7 +34,7 @@ pub fn base_form<'f>(
 
 // The form of a node, by those of its operands.
 fn node_form(
-    products: &mut Products,
+    products: &mut Sweep,
     lines: &[Form],
     nodes: &[Option<Form>],
     node: Node,
@@ -73,7 +73,7 @@ fn words_of(form: &Option<Form>) -> usize {
 
 // Lets the form of a base go where it is a node that node `user` uses for the last time.
 fn let_go_last(
-    products: &mut Products,
+    products: &mut Sweep,
     nodes: &mut [Option<Form>],
     graph: &Settled,
     base: Base,
@@ -95,7 +95,7 @@ fn let_go_last(
 
 // Lets the forms of the operands go that their node uses for the last time.
 fn let_go_used(
-    products: &mut Products,
+    products: &mut Sweep,
     nodes: &mut [Option<Form>],
     graph: &Settled,
     node: Node,
@@ -118,7 +118,7 @@ fn let_go_used(
 
 // Appends the form of the next node, and lets those go that no later node or output needs.
 fn add_node(
-    products: &mut Products,
+    products: &mut Sweep,
     compared: &Compared,
     lines: &[Form],
     nodes: &mut Vec<Option<Form>>,
@@ -144,7 +144,7 @@ fn add_node(
 // The form of each node. Those that no output needs were let go.
 pub fn node_forms(
     alloc: Global,
-    products: &mut Products,
+    products: &mut Sweep,
     compared: &Compared,
     lines: &[Form],
 ) -> Result<Vec<Option<Form>>, FormsFault>

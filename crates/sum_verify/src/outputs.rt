@@ -11,9 +11,9 @@ ghost use Rattle.sum_verify.specs.inside.Nodes.{IsSigForm};
 use crate::fault::FormsFault;
 use crate::nodes::{base_form, node_forms};
 use circuit_verify::Compared;
+use cut_sweeping::Sweep;
 use dependency_graph::Sig;
 use linear_forms::Form;
-use product_sums::Products;
 use std::alloc::Global;
 
 // The form of a base or a constant.
@@ -38,7 +38,7 @@ fn sig_form(
 // The form of each output.
 pub fn output_forms(
     alloc: Global,
-    products: &mut Products,
+    products: &mut Sweep,
     compared: &Compared,
     lines: &[Form],
 ) -> Result<Vec<Form>, FormsFault>

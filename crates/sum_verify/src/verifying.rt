@@ -11,7 +11,7 @@ use crate::outputs::output_forms;
 use crate::start::start_forms;
 use crate::walking::walk;
 use circuit_verify::Compared;
-use product_sums::Products;
+use cut_sweeping::{Reach, Sweep};
 use std::alloc::Global;
 use std::marker::Model;
 
@@ -45,7 +45,7 @@ impl<'s> Unsettled<'s> {
 ///
 /// The lines are held as exclusive sums of inputs and of products, which `product_sums` numbers and
 /// bounds. A product of sums of products is not multiplied out, so a circuit that agrees may be
-/// left unsettled.
+/// left unsettled. Where it is, all is done again with cuts, by `cut_sweeping`.
 ///
 /// # Errors
 ///
@@ -56,18 +56,28 @@ pub fn verify(alloc: Global, compared: Compared<'_>) -> Result<(), SumsFault<'_>
     ensures unsettled { IfErr result (IsSumsFault compared.entry) }
 {
     let _ = compared.variables(); // shows what is known of both
-    match verify_forms(alloc, &compared) {
+    match verify_by_forms(alloc, &compared) {
         Ok(()) => Ok(()),
         Err(FormsFault::Unsettled) => Err(SumsFault::Unsettled(Unsettled { compared })),
         Err(FormsFault::Memory(memory)) => Err(SumsFault::Memory(memory)),
     }
 }
 
-// The circuit is verified, where the forms of its lines tell.
-fn verify_forms(alloc: Global, compared: &Compared) -> Result<(), FormsFault>
+// The circuit is verified, where the forms of its lines tell: cuts are asked where products alone
+// do not.
+fn verify_by_forms(alloc: Global, compared: &Compared) -> Result<(), FormsFault>
     ensures { OnOk result (IsVerified (comparison compared.now)) }
 {
-    let mut products = Products::new(alloc, compared.variables());
+    match verify_forms(alloc, compared, Reach::Products) {
+        Err(FormsFault::Unsettled) => verify_forms(alloc, compared, Reach::Cuts),
+        told => told,
+    }
+}
+
+fn verify_forms(alloc: Global, compared: &Compared, reach: Reach) -> Result<(), FormsFault>
+    ensures { OnOk result (IsVerified (comparison compared.now)) }
+{
+    let mut products = Sweep::new(alloc, compared.variables(), reach);
     let mut lines = start_forms(alloc, compared)?;
     let outputs = output_forms(alloc, &mut products, compared, &lines)?;
     products.limit_atoms();

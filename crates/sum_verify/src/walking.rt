@@ -9,13 +9,14 @@ ghost use Rattle.sum_verify.specs.inside.Forms.{AreDetermined, AreFormsOf, HasVa
 ghost use Rattle.sum_verify.specs.inside.Forms.{IsFlipped};
 
 use circuit_verify::{Compared, target_of};
+use cut_sweeping::Sweep;
 use linear_forms::Form;
 use mct_circuit::Gate;
-use product_sums::{Products, ProductsFault};
+use product_sums::ProductsFault;
 
 // The form of the line that a narrow gate flips, behind the gate.
 fn flipped(
-    products: &mut Products,
+    products: &mut Sweep,
     lines: &[Form],
     gate: &Gate,
     target: u32,
@@ -41,7 +42,7 @@ fn flipped(
 
 // Takes the forms of the lines through all gates.
 pub fn walk(
-    products: &mut Products,
+    products: &mut Sweep,
     compared: &Compared,
     lines: &mut [Form],
 ) -> Result<(), ProductsFault>
