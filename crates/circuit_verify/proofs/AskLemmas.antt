@@ -14,7 +14,7 @@ use Rattle.decision_diagram.proofs.NamedLemmas.{HoldsNamed, NamesAllFrom, more_n
 use Rattle.decision_diagram.proofs.RestrictionLemmas.{ComesFrom-of_same}
 use Rattle.claim_check.specs.Variables.{over}
 use Rattle.claim_check.proofs.FunctionLemmas.{same_over, some_restriction, varies_not_steady}
-use Rattle.circuit_verify.specs.Comparisons.{Comparison, borrowed_bits, inputs_in, order_in, output_bits, output_variables, start_on}
+use Rattle.circuit_verify.specs.Comparisons.{Comparison, borrowed_bits, inputs_in, order_in, output_bits, output_lines, output_variables, start_on}
 use Rattle.circuit_verify.specs.Comparisons.{variables_behind, variables_in, work_lines}
 use Rattle.circuit_verify.specs.LineFunctions.{Holder, Line, IsHolder, IsMember, IsSameFunction, LineFunction, held_bit, value_on}
 use Rattle.circuit_verify.specs.Verdicts.{HasEnoughLines, IsComparable, IsVerifyFault, verify_fault}
@@ -122,7 +122,7 @@ input_bit q bits i size low =
     get_or_append_left (take n bits) (output_bits q bits ++ (zeros (work_lines q) ++ borrowed_bits q bits)) false i (omega (arith, low, front))
     ∙ get_or-take n bits i false low
 
-pub output_bit : (q : Comparison) (bits : List Bool) (k : ℕ) → length bits ≡ variables_in q → k < output_variables q.start q.program.outputs
+pub output_bit : (q : Comparison) (bits : List Bool) (k : ℕ) → length bits ≡ variables_in q → k < output_variables q.placing (output_lines q)
     → bit_of (start_on q bits) (inputs_in q + k) ≡ bit_of bits (inputs_in q + k)
 output_bit q bits k size low =
     let n : ℕ = inputs_in q in
@@ -130,22 +130,22 @@ output_bit q bits k size low =
     let front : length (take n bits) ≡ n = length-take-le n bits (omega (arith, size)) in
     ap (λ (m : ℕ). bit_of (start_on q bits) (m + k)) (sym front)
     ∙ get_or-append-add (take n bits) (output_bits q bits ++ rest) k false
-    ∙ bit-held_by q.start q.program.outputs q.borrow k (drop n bits) rest (behind_size q bits size) low
+    ∙ bit-held_by q.placing (output_lines q) q.borrow k (drop n bits) rest (behind_size q bits size) low
     ∙ get_or-drop n bits k false
 
 pub borrowed_bit : (q : Comparison) (bits : List Bool) (k : ℕ) → length bits ≡ variables_in q
-    → bit_of (start_on q bits) (inputs_in q + (q.program.outputs + (work_lines q + k)))
-    ≡ bit_of bits (inputs_in q + (output_variables q.start q.program.outputs + k))
+    → bit_of (start_on q bits) (inputs_in q + (output_lines q + (work_lines q + k)))
+    ≡ bit_of bits (inputs_in q + (output_variables q.placing (output_lines q) + k))
 borrowed_bit q bits k size =
     let n : ℕ = inputs_in q in
-    let o : ℕ = q.program.outputs in
-    let v : ℕ = output_variables q.start q.program.outputs in
+    let o : ℕ = output_lines q in
+    let v : ℕ = output_variables q.placing (output_lines q) in
     let w : ℕ = work_lines q in
     let held : List Bool = output_bits q bits in
     let borrowed : List Bool = borrowed_bits q bits in
     let idle : List Bool = zeros w ++ borrowed in
     let front : length (take n bits) ≡ n = length-take-le n bits (omega (arith, size)) in
-    let outputs : length held ≡ o = length-held_by q.start o q.borrow (drop n bits) (behind_size q bits size) in
+    let outputs : length held ≡ o = length-held_by q.placing o q.borrow (drop n bits) (behind_size q bits size) in
     let work : length (zeros w) ≡ w = length-replicate w false in
     ap (λ (m : ℕ). bit_of (start_on q bits) (m + (o + (w + k)))) (sym front)
     ∙ get_or-append-add (take n bits) (held ++ idle) (o + (w + k)) false
@@ -163,9 +163,9 @@ input_held q enough i low = record {
   same = same_over (ordered_in q) (λ bits. bit_of bits i) (held_bit q (Line 0 i)) (λ bits size. sym (input_bit q bits i size low));
 }
 
-output_held : (q : Comparison) → HasEnoughLines q → (k : ℕ) → k < output_variables q.start q.program.outputs → IsHeldBit q (inputs_in q + k)
+output_held : (q : Comparison) → HasEnoughLines q → (k : ℕ) → k < output_variables q.placing (output_lines q) → IsHeldBit q (inputs_in q + k)
 output_held q enough k low =
-    let few = few_variables q.start q.program.outputs in
+    let few = few_variables q.placing (output_lines q) in
     let line : ℕ = inputs_in q + k in
     record {
       holder = Line 0 line;
@@ -174,10 +174,10 @@ output_held q enough k low =
     }
 
 borrowed_held : (q : Comparison) → HasEnoughLines q → (k : ℕ) → k < q.borrow
-    → IsHeldBit q (inputs_in q + (output_variables q.start q.program.outputs + k))
+    → IsHeldBit q (inputs_in q + (output_variables q.placing (output_lines q) + k))
 borrowed_held q enough k low =
-    let line : ℕ = inputs_in q + (q.program.outputs + (work_lines q + k)) in
-    let place : ℕ = inputs_in q + (output_variables q.start q.program.outputs + k) in
+    let line : ℕ = inputs_in q + (output_lines q + (work_lines q + k)) in
+    let place : ℕ = inputs_in q + (output_variables q.placing (output_lines q) + k) in
     record {
       holder = Line 0 line;
       is = (omega arith, omega (arith, low, enough));
@@ -187,7 +187,7 @@ borrowed_held q enough k low =
 pub held_bit_of : (q : Comparison) → HasEnoughLines q → (i : ℕ) → i < variables_in q → IsHeldBit q i
 held_bit_of q enough i low =
     let n : ℕ = inputs_in q in
-    let v : ℕ = output_variables q.start q.program.outputs in
+    let v : ℕ = output_variables q.placing (output_lines q) in
     elim (cases_lt i n) as (λ _. IsHeldBit q i) [
       | inl input ↦ input_held q enough i input
       | inr late ↦ elim (cases_lt i (n + v)) as (λ _. IsHeldBit q i) [

@@ -1,17 +1,20 @@
 -- A comparison ends in one way.
 use Rattle.std.proofs.Common.{◌≡◌, ℕ, zero, suc, ◌+◌, ◌<◌, ◌≤◌, ◌⊎◌, inl, inr, Bool, true, false, List, [], ◌∷◌, length, take, drop, get_or, sym, ap, ◌∙◌}
-use Rattle.std.proofs.Common.{subst, arith}
+use Rattle.std.proofs.Common.{◌++◌, append_assoc, subst, arith}
 use Rattle.std.specs.List.{AllByRecursion}
 use Rattle.std.proofs.lemmas.Bool.{cases_Bool, cases_lt}
 use Rattle.std.proofs.lemmas.List.{length-drop, length-take-le}
-use Rattle.list_facts.specs.Bits.{bit_of}
+use Rattle.list_facts.specs.Bits.{bit_of, zeros}
 use Rattle.list_facts.proofs.CutLemmas.{cut_at}
 use Rattle.list_facts.proofs.FirstLemmas.{none_without, one_without}
 use Rattle.revs_tape.specs.VariableOrders.{IsBefore}
 use Rattle.claim_check.proofs.VariableLemmas.{AreBits, Ordered, assignment_at, same_bits}
-use Rattle.mct_circuit.specs.Gates.{IsNarrow}
-use Rattle.circuit_verify.specs.Comparisons.{Comparison, Agrees, held_by, inputs_in, output_variables}
-use Rattle.circuit_verify.specs.Verdicts.{ComparisonsEndInOneWay, DiffersFirst}
+use Rattle.mct_circuit.specs.Gates.{CircuitView, IsNarrow}
+use Rattle.circuit_plans.specs.declared.roles.Placing.{Placing}
+use Rattle.circuit_plans.specs.declared.roles.Placing.TheVariants.{Added, InPlace}
+use Rattle.circuit_plans.specs.Plans.{added}
+use Rattle.circuit_verify.specs.Comparisons.{Comparison, Agrees, Specification, beside, held_by, inputs_in, output_variables, work_lines}
+use Rattle.circuit_verify.specs.Verdicts.{ComparisonsEndInOneWay, DiffersFirst, FillsInputs}
 use Rattle.circuit_verify.proofs.HeldLemmas.{held_may, length-held_by}
 use Rattle.circuit_verify.proofs.OrderLemmas.{ordered_in}
 
@@ -89,16 +92,34 @@ same_or_before v one other size size2 =
 
 -- ---- where a circuit differs
 
-none_differs : (q : Comparison) (line : ℕ) (bits : List Bool) → Agrees q → DiffersFirst q line bits → ⊥
-none_differs q line bits agrees first =
+none_by : (program : Specification) (circuit : CircuitView) (placing : Placing) (borrow line : ℕ) (bits : List Bool)
+    → Agrees (beside program circuit placing borrow) → DiffersFirst (beside program circuit placing borrow) line bits → ⊥
+none_by program circuit (Added start) borrow line bits agrees first =
+    let q = beside program circuit (Added start) borrow in
     let n : ℕ = inputs_in q in
-    let o : ℕ = q.program.outputs in
-    let v : ℕ = output_variables q.start o in
+    let o : ℕ = program.outputs in
+    let v : ℕ = output_variables (Added start) o in
     let behind : List Bool = drop n bits in
-    let size : length behind ≡ v + q.borrow = length-drop n bits ∙ omega (arith, first.are_bits) in
-    let adds = agrees.adds (take n bits) (held_by q.start o behind) (drop v behind) (length-take-le n bits (omega (arith, first.are_bits)))
-    (length-held_by q.start o q.borrow behind size) (held_may q.start o behind) (length-drop v behind ∙ omega (arith, size)) in
-    first.differs (ap (λ (z : List Bool). bit_of z line) adds.mapped)
+    let size : length behind ≡ v + borrow = length-drop n bits ∙ omega (arith, first.are_bits) in
+    let held : List Bool = held_by (Added start) o behind in
+    let rest : List Bool = zeros (work_lines q) ++ drop v behind in
+    let adds = agrees.adds (take n bits) held (drop v behind) (length-take-le n bits (omega (arith, first.are_bits)))
+    (length-held_by (Added start) o borrow behind size) (held_may start o behind) (length-drop v behind ∙ omega (arith, size)) in
+    first.differs (ap (λ (z : List Bool). bit_of z line) (adds.mapped ∙ sym (append_assoc (take n bits) (added held (program.value (take n bits))) rest)))
+none_by program circuit InPlace borrow line bits agrees first =
+    let n : ℕ = inputs_in (beside program circuit InPlace borrow) in
+    let behind : List Bool = drop n bits in
+    let size : length behind ≡ borrow = length-drop n bits ∙ omega (arith, first.are_bits) in
+    let replaces = agrees.replaces (take n bits) behind (length-take-le n bits (omega (arith, first.are_bits))) size in
+    first.differs (ap (λ (z : List Bool). bit_of z line) replaces.mapped)
+
+none_differs : (q : Comparison) (line : ℕ) (bits : List Bool) → Agrees q → DiffersFirst q line bits → ⊥
+none_differs q = none_by q.program q.circuit q.placing q.borrow
+
+few_or_enough : (placing : Placing) (inputs outputs : ℕ) → placing ≡ InPlace → outputs < inputs → FillsInputs placing inputs outputs → ⊥
+few_or_enough placing inputs outputs is few fills =
+    let enough : inputs ≤ outputs = subst (λ (p : Placing). FillsInputs p inputs outputs) is fills in
+    omega (arith, few, enough)
 
 one_line : (q : Comparison) (line other : ℕ) (bits others : List Bool) → DiffersFirst q line bits → DiffersFirst q other others → line ≡ other
 one_line q line other bits others first second =
@@ -122,6 +143,7 @@ one_list q line bits others first second =
 
 pub comparisons_end_in_one_way : ComparisonsEndInOneWay
 comparisons_end_in_one_way q = record {
+  few_or_enough = λ few enough. few_or_enough q.placing (inputs_in q) q.program.outputs few.0 few.1 enough;
   no_gate = λ gate narrow first. none_without IsNarrow q.circuit.gates gate narrow first;
   one_gate = λ gate other first second. one_without IsNarrow q.circuit.gates gate other first second;
   no_difference = none_differs q;

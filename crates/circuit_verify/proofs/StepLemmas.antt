@@ -1,6 +1,6 @@
 -- The steps of a comparison: one more bit, one more node, one more output, one more gate.
 use Rattle.std.proofs.Common.{◌≡◌, ℕ, ◌+◌, ◌<◌, ◌≤◌, Bool, false, List, [], ◌∷◌, ◌++◌, length, map, take, drop, replicate, get_or, slice_get, Some}
-use Rattle.std.proofs.Common.{sym, ap, ap₂, ◌∙◌, subst, arith, Result, length-append}
+use Rattle.std.proofs.Common.{sym, ap, ap₂, ◌∙◌, subst, arith, Result, append_assoc, length-append}
 use Rattle.std.specs.Bool.{xor}
 use Rattle.std.specs.List.{AllByRecursion}
 use Rattle.std.proofs.lemmas.Simd.{get_or-zip2, length-zip2}
@@ -27,18 +27,19 @@ use Rattle.mct_circuit.specs.declared.gate.Op.{Op}
 use Rattle.mct_circuit.specs.declared.gate.Op.TheVariants.{Flip}
 use Rattle.mct_circuit.specs.Gates.{AreGatesOn, GateView, IsGateOn, after_gate, line_map, targets_of}
 use Rattle.mct_circuit.proofs.ReversalLemmas.{length-line_map}
-use Rattle.circuit_plans.specs.declared.roles.Start.{Start}
+use Rattle.circuit_plans.specs.declared.roles.Placing.{Placing}
+use Rattle.circuit_plans.specs.declared.roles.Placing.TheVariants.{InPlace}
 use Rattle.circuit_plans.specs.Plans.{added}
-use Rattle.circuit_verify.specs.Comparisons.{Comparison, borrowed_bits, input_bits, inputs_in, order_in, output_bits, output_variables}
-use Rattle.circuit_verify.specs.Comparisons.{start_on, variables_in, wanted_on, work_lines}
+use Rattle.circuit_verify.specs.Comparisons.{Comparison, borrowed_bits, input_bits, inputs_in, lines_for, order_in, output_bits, output_lines}
+use Rattle.circuit_verify.specs.Comparisons.{output_variables, put_by, start_on, variables_in, wanted_on, wanted_ports, work_lines}
 use Rattle.circuit_verify.specs.LineFunctions.{Line, Step, Wanted}
-use Rattle.circuit_verify.specs.Verdicts.{HasEnoughLines, IsComparable, verify_fault}
+use Rattle.circuit_verify.specs.Verdicts.{FillsInputs, HasEnoughLines, IsComparable, verify_fault}
 use Rattle.circuit_verify.specs.declared.fault.VerifyFault.TheVariants as faults
 use Rattle.circuit_verify.specs.Compared.{ComparedView, IsReady, comparison}
-use Rattle.circuit_verify.specs.inside.Numbers.{AreEnds, AreLaid, AreNumbersOf, GrowsBy, bits_in, first_values, held_numbers}
-use Rattle.circuit_verify.specs.inside.Numbers.{holder_function, line_function_of, node_function_of, sig_function_of}
+use Rattle.circuit_verify.specs.inside.Numbers.{AreEnds, AreLaid, AreNumbersOf, GrowsBy, IsAdded, bits_in, first_ports, first_values}
+use Rattle.circuit_verify.specs.inside.Numbers.{held_numbers, holder_function, line_function_of, node_function_of, sig_function_of}
 use Rattle.circuit_verify.proofs.AskLemmas.{IsAnswered, IsHeldBit, answered, held_bit_of}
-use Rattle.circuit_verify.proofs.HeldLemmas.{held_are, length-held_by}
+use Rattle.circuit_verify.proofs.HeldLemmas.{held_are, length-held_by, length-put_by, lines_added, put_added}
 use Rattle.circuit_verify.proofs.LineLemmas.{line_map_next}
 use Rattle.circuit_verify.proofs.NumberLemmas.{bit-at, length-bits_in, length-numbers, numbers-append, numbers-drop, numbers-grown}
 use Rattle.circuit_verify.proofs.NumberLemmas.{numbers-push, numbers-same, numbers-take, numbers-zeros}
@@ -172,27 +173,39 @@ all_outputs v nodes outputs i most are =
 
 -- ---- lines
 
--- input bits, output lines, work lines and borrowed bits
-pub lines_laid : (q : Comparison) (nodes : List Triple) (bits outputs lines : List ℕ) (inputs variables work never : ℕ)
-    → inputs ≡ inputs_in q → variables ≡ output_variables q.start q.program.outputs → work ≡ work_lines q
-    → lines ≡ take inputs bits ++ (outputs ++ (replicate work never ++ drop variables (drop inputs bits))) → AreNumbersOf q nodes bits (λ b. b)
-    → StandsFor nodes never (λ a. false) → AreLaid q nodes outputs lines
-lines_laid q nodes bits outputs lines inputs variables work never is_inputs is_variables is_work laid of_bits stands = record {
-  are = λ value of_outputs.
+-- the first numbers are those of the inputs
+pub input_numbers : (q : Comparison) (nodes : List Triple) (bits front : List ℕ) (inputs : ℕ) → inputs ≡ inputs_in q → front ≡ take inputs bits
+    → AreNumbersOf q nodes bits (λ b. b) → AreNumbersOf q nodes front (input_bits q)
+input_numbers q nodes bits front inputs is_inputs is are =
+    subst (λ (ns : List ℕ). AreNumbersOf q nodes ns (input_bits q)) (sym (is ∙ ap (λ (i : ℕ). take i bits) is_inputs))
+    (numbers-take q nodes (inputs_in q) bits (λ b. b) are)
+
+-- input lines and output lines, work lines and borrowed bits
+pub lines_laid : (q : Comparison) (nodes : List Triple) (bits ports lines : List ℕ) (inputs variables work never : ℕ)
+    → inputs ≡ inputs_in q → variables ≡ output_variables q.placing (output_lines q) → work ≡ work_lines q
+    → lines ≡ ports ++ (replicate work never ++ drop variables (drop inputs bits)) → AreNumbersOf q nodes bits (λ b. b)
+    → StandsFor nodes never (λ a. false) → AreLaid q nodes ports lines
+lines_laid q nodes bits ports lines inputs variables work never is_inputs is_variables is_work laid of_bits stands = record {
+  are = λ value of_ports.
       let n : ℕ = inputs_in q in
-      let v : ℕ = output_variables q.start q.program.outputs in
+      let v : ℕ = output_variables q.placing (output_lines q) in
       let w : ℕ = work_lines q in
       let rest : List ℕ = drop v (drop n bits) in
-      let whole : lines ≡ take n bits ++ (outputs ++ (replicate w never ++ rest)) =
-      laid ∙ ap (λ (k : ℕ). take inputs bits ++ (outputs ++ (replicate k never ++ drop variables (drop inputs bits)))) is_work
-      ∙ ap₂ (λ (i k : ℕ). take i bits ++ (outputs ++ (replicate w never ++ drop k (drop i bits)))) is_inputs is_variables in
+      let whole : lines ≡ ports ++ (replicate w never ++ rest) =
+      laid ∙ ap (λ (k : ℕ). ports ++ (replicate k never ++ drop variables (drop inputs bits))) is_work
+      ∙ ap₂ (λ (i k : ℕ). ports ++ (replicate w never ++ drop k (drop i bits))) is_inputs is_variables in
       let borrowed = numbers-drop q nodes v (drop n bits) (λ b. drop n b) (numbers-drop q nodes n bits (λ b. b) of_bits) in
       let idle = numbers-append q nodes (replicate w never) rest (λ b. zeros w) (λ b. drop v (drop n b)) (numbers-zeros q nodes never w stands) borrowed in
-      let behind = numbers-append q nodes outputs (replicate w never ++ rest) value (λ b. zeros w ++ drop v (drop n b)) of_outputs idle in
-      subst (λ (ns : List ℕ). AreNumbersOf q nodes ns (λ b. take n b ++ (value b ++ (zeros w ++ drop v (drop n b))))) (sym whole)
-      (numbers-append q nodes (take n bits) (outputs ++ (replicate w never ++ rest)) (λ b. take n b)
-      (λ b. value b ++ (zeros w ++ drop v (drop n b))) (numbers-take q nodes n bits (λ b. b) of_bits) behind);
+      subst (λ (ns : List ℕ). AreNumbersOf q nodes ns (λ b. value b ++ (zeros w ++ drop v (drop n b)))) (sym whole)
+      (numbers-append q nodes ports (replicate w never ++ rest) value (λ b. zeros w ++ drop v (drop n b)) of_ports idle);
 }
+
+-- the input lines and the output lines before the gates come first
+pub laid_first : (q : Comparison) (nodes : List Triple) (ports lines : List ℕ) → AreLaid q nodes ports lines → AreNumbersOf q nodes ports (first_ports q)
+    → AreNumbersOf q nodes lines (start_on q)
+laid_first q nodes ports lines laid are =
+    numbers-same q nodes lines (λ b. first_ports q b ++ (zeros (work_lines q) ++ borrowed_bits q b)) (start_on q)
+    (λ b size. append_assoc (input_bits q b) (output_bits q b) (zeros (work_lines q) ++ borrowed_bits q b)) (laid.are (first_ports q) are)
 
 -- a number for each line
 pub many_lines : (q : Comparison) (nodes : List Triple) (lines : List ℕ) → HasEnoughLines q → AreNumbersOf q nodes lines (start_on q)
@@ -268,22 +281,22 @@ many_outputs v nodes outputs are =
     ∙ length-map v.graph.outputs (settled_value v.graph (input_bits q (bits_in q (λ i. false))))
 
 -- and of what the output lines hold
-pub length-output_bits : (q : Comparison) (bits : List Bool) → length bits ≡ variables_in q → length (output_bits q bits) ≡ q.program.outputs
+pub length-output_bits : (q : Comparison) (bits : List Bool) → length bits ≡ variables_in q → length (output_bits q bits) ≡ output_lines q
 length-output_bits q bits size =
-    length-held_by q.start q.program.outputs q.borrow (drop (inputs_in q) bits) (length-drop (inputs_in q) bits ∙ omega (arith, size))
+    length-held_by q.placing (output_lines q) q.borrow (drop (inputs_in q) bits) (length-drop (inputs_in q) bits ∙ omega (arith, size))
 
-pub many_held : (q : Comparison) (nodes : List Triple) (held : List ℕ) → AreNumbersOf q nodes held (output_bits q) → length held ≡ q.program.outputs
+pub many_held : (q : Comparison) (nodes : List Triple) (held : List ℕ) → AreNumbersOf q nodes held (output_bits q) → length held ≡ output_lines q
 many_held q nodes held are =
     length-numbers q nodes held (output_bits q) (λ i. false) are ∙ length-output_bits q (bits_in q (λ i. false)) (length-bits_in q (λ i. false))
 
 -- the numbers behind those of the inputs are enough for the output lines that have variables
-pub held_inside : (v : ComparedView) (nodes : List Triple) (bits behind : List ℕ) (start : Start) (outputs inputs : ℕ) → start ≡ v.start
-    → outputs ≡ length v.graph.outputs → inputs ≡ inputs_in (comparison v) → behind ≡ drop inputs bits
-    → AreNumbersOf (comparison v) nodes bits (λ b. b) → output_variables start outputs ≤ length behind
-held_inside v nodes bits behind start outputs inputs is_start is_outputs is_inputs is_behind are =
+pub held_inside : (v : ComparedView) (nodes : List Triple) (bits behind : List ℕ) (placing : Placing) (lines inputs : ℕ) → placing ≡ v.placing
+    → lines ≡ output_lines (comparison v) → inputs ≡ inputs_in (comparison v) → behind ≡ drop inputs bits
+    → AreNumbersOf (comparison v) nodes bits (λ b. b) → output_variables placing lines ≤ length behind
+held_inside v nodes bits behind placing lines inputs is_placing is_lines is_inputs is_behind are =
     omega (
       arith,
-      ap₂ output_variables is_start is_outputs,
+      ap₂ output_variables is_placing is_lines,
       is_inputs,
       ap (λ (ns : List ℕ). length ns) is_behind,
       length-drop inputs bits,
@@ -291,31 +304,37 @@ held_inside v nodes bits behind start outputs inputs is_start is_outputs is_inpu
     )
 
 -- and give what they hold
-pub held_found : (v : ComparedView) (nodes : List Triple) (bits behind held : List ℕ) (start : Start) (outputs inputs never : ℕ) → start ≡ v.start
-    → outputs ≡ length v.graph.outputs → inputs ≡ inputs_in (comparison v) → behind ≡ drop inputs bits → held ≡ held_numbers start outputs never behind
-    → AreNumbersOf (comparison v) nodes bits (λ b. b) → StandsFor nodes never (λ a. false)
+pub held_found : (v : ComparedView) (nodes : List Triple) (bits behind held : List ℕ) (placing : Placing) (lines inputs never : ℕ)
+    → placing ≡ v.placing → lines ≡ output_lines (comparison v) → inputs ≡ inputs_in (comparison v) → behind ≡ drop inputs bits
+    → held ≡ held_numbers placing lines never behind → AreNumbersOf (comparison v) nodes bits (λ b. b) → StandsFor nodes never (λ a. false)
     → AreNumbersOf (comparison v) nodes held (output_bits (comparison v))
-held_found v nodes bits behind held start outputs inputs never is_start is_outputs is_inputs is_behind is are stands =
+held_found v nodes bits behind held placing lines inputs never is_placing is_lines is_inputs is_behind is are stands =
     let q = comparison v in
-    let o : ℕ = length v.graph.outputs in
+    let o : ℕ = output_lines q in
     let n : ℕ = inputs_in q in
-    let whole : held ≡ held_numbers v.start o never (drop n bits) =
-    is ∙ ap₂ (λ (s : Start) (k : ℕ). held_numbers s k never behind) is_start is_outputs
-    ∙ ap (λ (ns : List ℕ). held_numbers v.start o never ns) (is_behind ∙ ap (λ (i : ℕ). drop i bits) is_inputs) in
-    subst (λ (ns : List ℕ). AreNumbersOf q nodes ns (output_bits q)) (sym whole) (held_are q nodes v.start o never n bits are stands)
+    let whole : held ≡ held_numbers v.placing o never (drop n bits) =
+    is ∙ ap₂ (λ (p : Placing) (k : ℕ). held_numbers p k never behind) is_placing is_lines
+    ∙ ap (λ (ns : List ℕ). held_numbers v.placing o never ns) (is_behind ∙ ap (λ (i : ℕ). drop i bits) is_inputs) in
+    subst (λ (ns : List ℕ). AreNumbersOf q nodes ns (output_bits q)) (sym whole) (held_are q nodes v.placing o never n bits are stands)
 
--- ---- what the output lines should hold
+-- ---- what the output lines should hold, where outputs are added
 
 abbrev pub wanted_bits : (v : ComparedView) → List Bool → List Bool
 wanted_bits v bits = added (output_bits (comparison v) bits) (settled_outputs v.graph (input_bits (comparison v) bits))
 
-pub length-wanted_bits : (v : ComparedView) (bits : List Bool) → length bits ≡ variables_in (comparison v)
+-- there is an output line for each output
+pub length-held : (v : ComparedView) (bits : List Bool) → IsAdded v.placing → length bits ≡ variables_in (comparison v)
+    → length (output_bits (comparison v) bits) ≡ length v.graph.outputs
+length-held v bits is size =
+    length-output_bits (comparison v) bits size ∙ lines_added v.placing (inputs_in (comparison v)) (length v.graph.outputs) is
+
+pub length-wanted_bits : (v : ComparedView) (bits : List Bool) → IsAdded v.placing → length bits ≡ variables_in (comparison v)
     → length (wanted_bits v bits) ≡ length v.graph.outputs
-length-wanted_bits v bits size =
+length-wanted_bits v bits is size =
     let q = comparison v in
     let held : List Bool = output_bits q bits in
     let out : List Bool = settled_outputs v.graph (input_bits q bits) in
-    let wide : length held ≡ length v.graph.outputs = length-output_bits q bits size in
+    let wide : length held ≡ length v.graph.outputs = length-held v bits is size in
     let many : length out ≡ length v.graph.outputs = length-map v.graph.outputs (settled_value v.graph (input_bits q bits)) in
     length-zip2 xor held out (wide ∙ sym many) ∙ wide
 
@@ -332,47 +351,58 @@ outputs_grown v old new held outputs kept are = record {
       numbers-grown (comparison v) old new kept outputs (λ b. settled_outputs v.graph (input_bits (comparison v) b)) are.outputs_are;
 }
 
-pub wanted_is : (v : ComparedView) (nodes : List Triple) (held outputs : List ℕ) (k : ℕ) → k < length v.graph.outputs
-    → AreOutputs v nodes held outputs
+-- there is a number of an output line for each output
+pub many_added : (v : ComparedView) (nodes : List Triple) (held : List ℕ) → IsAdded v.placing → AreNumbersOf (comparison v) nodes held (output_bits (comparison v))
+    → length held ≡ length v.graph.outputs
+many_added v nodes held is are =
+    many_held (comparison v) nodes held are ∙ lines_added v.placing (inputs_in (comparison v)) (length v.graph.outputs) is
+
+pub wanted_is : (v : ComparedView) (nodes : List Triple) (held outputs : List ℕ) (k : ℕ) → IsAdded v.placing
+    → k < length v.graph.outputs → AreOutputs v nodes held outputs
     → AreSame (exclusive_or (function_of nodes (get_or held k 0)) (function_of nodes (get_or outputs k 0)))
     (λ a. bit_of (wanted_bits v (bits_in (comparison v) a)) k)
-wanted_is v nodes held outputs k low are = λ a.
+wanted_is v nodes held outputs k is low are = λ a.
     let q = comparison v in
     let bits : List Bool = bits_in q a in
     let size : length bits ≡ variables_in q = length-bits_in q a in
     let now : List Bool = output_bits q bits in
     let out : List Bool = settled_outputs v.graph (input_bits q bits) in
-    let wide : length now ≡ length v.graph.outputs = length-output_bits q bits size in
+    let wide : length now ≡ length v.graph.outputs = length-held v bits is size in
     let many : length out ≡ length v.graph.outputs = length-map v.graph.outputs (settled_value v.graph (input_bits q bits)) in
     ap₂ xor
-    (bit-at nodes held k a (omega (arith, low, many_held q nodes held are.held_are)) ∙ ap (λ (z : List Bool). bit_of z k) (are.held_are.same a))
+    (bit-at nodes held k a (omega (arith, low, many_added v nodes held is are.held_are)) ∙ ap (λ (z : List Bool). bit_of z k) (are.held_are.same a))
     (bit-at nodes outputs k a (omega (arith, low, many_outputs v nodes outputs are.outputs_are))
     ∙ ap (λ (z : List Bool). bit_of z k) (are.outputs_are.same a))
     ∙ sym (get_or-zip2 xor now out k false false false (omega (arith, low, wide)) (omega (arith, low, many)))
 
 -- which is held by a line as it should be
-pub wanted_bit : (v : ComparedView) (bits : List Bool) (k : ℕ) → length bits ≡ variables_in (comparison v) → k < length v.graph.outputs
-    → bit_of (wanted_bits v bits) k ≡ bit_of (wanted_on (comparison v) bits) (inputs_in (comparison v) + k)
-wanted_bit v bits k size low =
+pub wanted_bit : (v : ComparedView) (bits : List Bool) (k : ℕ) → IsAdded v.placing → length bits ≡ variables_in (comparison v)
+    → k < length v.graph.outputs → bit_of (wanted_bits v bits) k ≡ bit_of (wanted_on (comparison v) bits) (inputs_in (comparison v) + k)
+wanted_bit v bits k is size low =
     let q = comparison v in
     let n : ℕ = inputs_in q in
+    let out : List Bool = wanted_bits v bits in
     let rest : List Bool = zeros (work_lines q) ++ borrowed_bits q bits in
     let front : length (take n bits) ≡ n = length-take-le n bits (omega (arith, size)) in
-    sym (ap (λ (m : ℕ). bit_of (wanted_on q bits) (m + k)) (sym front)
-    ∙ get_or-append-add (take n bits) (wanted_bits v bits ++ rest) k false
-    ∙ get_or_append_left (wanted_bits v bits) rest false k (omega (arith, low, length-wanted_bits v bits size)))
+    let whole : wanted_on q bits ≡ take n bits ++ (out ++ rest) =
+    ap (λ (z : List Bool). z ++ rest) (put_added v.placing (take n bits) (output_bits q bits) (settled_outputs v.graph (take n bits)) is)
+    ∙ append_assoc (take n bits) out rest in
+    sym (ap (λ (z : List Bool). bit_of z (n + k)) whole
+    ∙ ap (λ (m : ℕ). bit_of (take n bits ++ (out ++ rest)) (m + k)) (sym front)
+    ∙ get_or-append-add (take n bits) (out ++ rest) k false
+    ∙ get_or_append_left out rest false k (omega (arith, low, length-wanted_bits v bits is size)))
 
 pub wanted_answered : (v : ComparedView) → IsReady v → (held outputs : List ℕ) (k : ℕ) (first old new : DiagramView) (r : Result ℕ DdFault)
-    → k < length v.graph.outputs → AreOutputs v first.nodes held outputs → GrowsBy (comparison v) first old
+    → IsAdded v.placing → k < length v.graph.outputs → AreOutputs v first.nodes held outputs → GrowsBy (comparison v) first old
     → Computes (exclusive_or (function_of old.nodes (get_or held k 0)) (function_of old.nodes (get_or outputs k 0))) old new r
     → IsAnswered (comparison v) (exclusive_or (function_of old.nodes (get_or held k 0)) (function_of old.nodes (get_or outputs k 0))) first new
-wanted_answered v ready held outputs k first old new r low are before made =
+wanted_answered v ready held outputs k first old new r is low are before made =
     let q = comparison v in
     let there = outputs_grown v first old held outputs before.kept are in
     answered q (Wanted (inputs_in q + k))
     (exclusive_or (function_of old.nodes (get_or held k 0)) (function_of old.nodes (get_or outputs k 0))) first old new r ready.comparable
-    (omega (arith, low, ready.comparable.lines))
-    (λ a. wanted_is v old.nodes held outputs k low there a ∙ wanted_bit v (bits_in q a) k (length-bits_in q a) low) before made
+    (omega (arith, low, lines_added v.placing (inputs_in q) (length v.graph.outputs) is, ready.comparable.lines))
+    (λ a. wanted_is v old.nodes held outputs k is low there a ∙ wanted_bit v (bits_in q a) k is (length-bits_in q a) low) before made
 
 -- what is said of numbers that were read is said of those at the place
 pub at_place : (P : Function → Type 0) (nodes : List Triple) (held outputs : List ℕ) (k x y : ℕ) → x ≡ get_or held k 0 → y ≡ get_or outputs k 0
@@ -383,22 +413,56 @@ at_place P nodes held outputs k x y first second said =
     (subst (λ (n : ℕ). P (exclusive_or (function_of nodes n) (function_of nodes y))) first said)
 
 -- the number of one more
-pub wanted_more : (v : ComparedView) (nodes : List Triple) (numbers : List ℕ) (n k : ℕ) → k < length v.graph.outputs
+pub wanted_more : (v : ComparedView) (nodes : List Triple) (numbers : List ℕ) (n k : ℕ) → IsAdded v.placing → k < length v.graph.outputs
     → AreNumbersOf (comparison v) nodes numbers (λ b. take k (wanted_bits v b))
     → StandsFor nodes n (λ a. bit_of (wanted_bits v (bits_in (comparison v) a)) k)
     → AreNumbersOf (comparison v) nodes (numbers ++ n ∷ []) (λ b. take (k + 1) (wanted_bits v b))
-wanted_more v nodes numbers n k low are stands =
+wanted_more v nodes numbers n k is low are stands =
     let q = comparison v in
     numbers-same q nodes (numbers ++ n ∷ []) (λ b. take k (wanted_bits v b) ++ bit_of (wanted_bits v b) k ∷ [])
     (λ b. take (k + 1) (wanted_bits v b))
-    (λ b size. sym (take_more (wanted_bits v b) k false (omega (arith, low, length-wanted_bits v b size))))
+    (λ b size. sym (take_more (wanted_bits v b) k false (omega (arith, low, length-wanted_bits v b is size))))
     (numbers-push q nodes numbers n (λ b. take k (wanted_bits v b)) (λ b. bit_of (wanted_bits v b) k) are stands)
 
-pub all_wanted : (v : ComparedView) (nodes : List Triple) (numbers : List ℕ) (k : ℕ) → length v.graph.outputs ≤ k
+pub all_wanted : (v : ComparedView) (nodes : List Triple) (numbers : List ℕ) (k : ℕ) → IsAdded v.placing → length v.graph.outputs ≤ k
     → AreNumbersOf (comparison v) nodes numbers (λ b. take k (wanted_bits v b)) → AreNumbersOf (comparison v) nodes numbers (wanted_bits v)
-all_wanted v nodes numbers k most are =
+all_wanted v nodes numbers k is most are =
     numbers-same (comparison v) nodes numbers (λ b. take k (wanted_bits v b)) (wanted_bits v)
-    (λ b size. take_all k (wanted_bits v b) (omega (arith, most, length-wanted_bits v b size))) are
+    (λ b size. take_all k (wanted_bits v b) (omega (arith, most, length-wanted_bits v b is size))) are
+
+-- the input lines with the outputs that were added behind them
+pub ports_added : (v : ComparedView) (nodes : List Triple) (front back all : List ℕ) → IsAdded v.placing → all ≡ front ++ back
+    → AreNumbersOf (comparison v) nodes front (input_bits (comparison v)) → AreNumbersOf (comparison v) nodes back (wanted_bits v)
+    → AreNumbersOf (comparison v) nodes all (wanted_ports (comparison v))
+ports_added v nodes front back all is whole fronts backs =
+    let q = comparison v in
+    subst (λ (ns : List ℕ). AreNumbersOf q nodes ns (wanted_ports q)) (sym whole)
+    (numbers-same q nodes (front ++ back) (λ b. input_bits q b ++ wanted_bits v b) (wanted_ports q)
+    (λ b size. sym (put_added v.placing (input_bits q b) (output_bits q b) (settled_outputs v.graph (input_bits q b)) is))
+    (numbers-append q nodes front back (input_bits q) (wanted_bits v) fronts backs))
+
+-- and the outputs in the place of the inputs
+pub ports_in_place : (v : ComparedView) (nodes : List Triple) (outputs : List ℕ) → v.placing ≡ InPlace
+    → AreNumbersOf (comparison v) nodes outputs (λ b. settled_outputs v.graph (input_bits (comparison v) b))
+    → AreNumbersOf (comparison v) nodes outputs (wanted_ports (comparison v))
+ports_in_place v nodes outputs is are =
+    let q = comparison v in
+    numbers-same q nodes outputs (λ b. settled_outputs v.graph (input_bits q b)) (wanted_ports q)
+    (λ b size. sym (ap (λ (p : Placing). put_by p (input_bits q b) (output_bits q b) (settled_outputs v.graph (input_bits q b))) is)) are
+
+-- how many input lines and output lines there are
+pub length-ports : (v : ComparedView) → IsReady v → (bits : List Bool) → length bits ≡ variables_in (comparison v)
+    → length (wanted_ports (comparison v) bits) ≡ inputs_in (comparison v) + output_lines (comparison v)
+length-ports v ready bits size =
+    let q = comparison v in
+    let n : ℕ = inputs_in q in
+    let o : ℕ = length v.graph.outputs in
+    let input : List Bool = take n bits in
+    let front : length input ≡ n = length-take-le n bits (omega (arith, size)) in
+    length-put_by v.placing input (output_bits q bits) (settled_outputs v.graph input) o (length-map v.graph.outputs (settled_value v.graph input))
+    (length-output_bits q bits size ∙ ap (λ (m : ℕ). lines_for v.placing m o) (sym front))
+    (subst (λ (m : ℕ). FillsInputs v.placing m o) (sym front) ready.comparable.outputs)
+    ∙ ap (λ (m : ℕ). m + lines_for v.placing m o) front
 
 -- a number for each line, before and behind the gates
 pub length-wanted : (v : ComparedView) → IsReady v → (bits : List Bool) → length bits ≡ variables_in (comparison v)
@@ -406,18 +470,16 @@ pub length-wanted : (v : ComparedView) → IsReady v → (bits : List Bool) → 
 length-wanted v ready bits size =
     let q = comparison v in
     let n : ℕ = inputs_in q in
-    let m : ℕ = output_variables q.start q.program.outputs in
+    let m : ℕ = output_variables q.placing (output_lines q) in
     let w : ℕ = work_lines q in
-    let out : List Bool = wanted_bits v bits in
+    let ports : List Bool = wanted_ports q bits in
     let borrowed : List Bool = borrowed_bits q bits in
     let rest : length (drop n bits) ≡ m + q.borrow = length-drop n bits ∙ omega (arith, size) in
-    length-append (take n bits) (out ++ (zeros w ++ borrowed))
+    length-append ports (zeros w ++ borrowed)
     ∙ omega (
       arith,
-      length-take-le n bits (omega (arith, size)),
-      length-append out (zeros w ++ borrowed),
       length-append (zeros w) borrowed,
-      length-wanted_bits v bits size,
+      length-ports v ready bits size,
       length-replicate w false,
       length-drop m (drop n bits),
       rest,

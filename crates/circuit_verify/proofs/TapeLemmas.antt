@@ -13,9 +13,9 @@ use Rattle.revs_tape.specs.Tapes.{outputs_on}
 use Rattle.claim_check.specs.Measures.{node_function, write_function}
 use Rattle.claim_check.specs.Settled.{settled_outputs}
 use Rattle.mct_circuit.specs.Gates.{GateView}
-use Rattle.circuit_plans.specs.declared.roles.Start.{Start}
+use Rattle.circuit_plans.specs.declared.roles.Placing.{Placing}
 use Rattle.circuit_verify.specs.declared.fault.NotComparable.{NotComparable}
-use Rattle.circuit_verify.specs.declared.fault.NotComparable.TheVariants.{Lines, Gate}
+use Rattle.circuit_verify.specs.declared.fault.NotComparable.TheVariants.{Outputs, Lines, Gate}
 use Rattle.circuit_verify.specs.declared.fault.VerifyFault.{VerifyFault}
 use Rattle.circuit_verify.specs.declared.fault.VerifyFault.TheVariants as faults
 use Rattle.circuit_verify.specs.Comparisons.{Comparison, of_settled, of_tape, order_in}
@@ -27,12 +27,12 @@ use Rattle.circuit_verify.specs.Verdicts.{DiffersFirst, IsComparable, IsNotCompa
 -- their limits alone.
 module _ (params : List ℕ) (steps others : ℕ) (step other : ℕ → List Bool → Bool) (outputs : ℕ) (value : List Bool → List Bool)
     (made : (k : ℕ) → k < steps → (j : ℕ) × (j < others) × ((input : List Bool) → step k input ≡ other j input))
-    (lines limit another : ℕ) (gates : List GateView) (start : Start) (borrow : ℕ) where
+    (lines limit another : ℕ) (gates : List GateView) (placing : Placing) (borrow : ℕ) where
   abbrev one : Comparison
   one = record {
     program = record { params = params; steps = steps; step = step; outputs = outputs; value = value };
     circuit = record { lines = lines; limit = limit; gates = gates };
-    start = start;
+    placing = placing;
     borrow = borrow;
   }
 
@@ -40,7 +40,7 @@ module _ (params : List ℕ) (steps others : ℕ) (step other : ℕ → List Boo
   two = record {
     program = record { params = params; steps = others; step = other; outputs = outputs; value = value };
     circuit = record { lines = lines; limit = another; gates = gates };
-    start = start;
+    placing = placing;
     borrow = borrow;
   }
 
@@ -109,7 +109,7 @@ module _ (params : List ℕ) (steps others : ℕ) (step other : ℕ → List Boo
   -- ---- verdicts
 
   pub comparable_moved : IsComparable one → IsComparable two
-  comparable_moved is = record { lines = is.lines; narrow = is.narrow }
+  comparable_moved is = record { outputs = is.outputs; lines = is.lines; narrow = is.narrow }
 
   pub differs_moved : (line : ℕ) (bits : List Bool) → DiffersFirst one line bits → DiffersFirst two line bits
   differs_moved line bits first = record {
@@ -121,9 +121,10 @@ module _ (params : List ℕ) (steps others : ℕ) (step other : ℕ → List Boo
   }
 
   pub verified_moved : IsVerified one → IsVerified two
-  verified_moved is = record { comparable = comparable_moved is.comparable; agrees = record { size = is.agrees.size; adds = is.agrees.adds } }
+  verified_moved is = record { comparable = comparable_moved is.comparable; agrees = is.agrees }
 
   pub not_comparable_moved : (why : NotComparable) → IsNotComparable one why → IsNotComparable two why
+  not_comparable_moved (Outputs inputs few) is = is
   not_comparable_moved (Lines need) is = is
   not_comparable_moved (Gate gate) is = is
 
@@ -135,7 +136,7 @@ module _ (params : List ℕ) (steps others : ℕ) (step other : ℕ → List Boo
 -- ---- a tape
 
 pub said_of_tapes : SaidOfTapes
-said_of_tapes t s is c start borrow limit =
+said_of_tapes t s is c placing borrow limit =
     let same_value : settled_outputs s ≡ outputs_on t = fun_ext is.values in
     let made : (k : ℕ) → k < length s.nodes → (j : ℕ) × (j < writes_of t) × ((input : List Bool) → node_function s k input ≡ write_function t j input) =
     λ k low. let has = is.made k low in (has.write, has.known, has.same) in
@@ -143,18 +144,18 @@ said_of_tapes t s is c start borrow limit =
     record {
       program = record { params = t.params; steps = length s.nodes; step = node_function s; outputs = outputs; value = value };
       circuit = c;
-      start = start;
+      placing = placing;
       borrow = borrow;
     } in
     let there : own (length s.outputs) (settled_outputs s) ≡ own (outputs_of t) (outputs_on t) =
     ap (λ (o : ℕ). own o (settled_outputs s)) is.outputs ∙ ap (own (outputs_of t)) same_value in
     record {
       not_comparable = λ why said. not_comparable_moved t.params (length s.nodes) (writes_of t) (node_function s) (write_function t) (outputs_of t)
-          (outputs_on t) made c.lines c.limit c.limit c.gates start borrow why (subst (λ (q : Comparison). IsNotComparable q why) there said);
+          (outputs_on t) made c.lines c.limit c.limit c.gates placing borrow why (subst (λ (q : Comparison). IsNotComparable q why) there said);
       comparable = λ said. comparable_moved t.params (length s.nodes) (writes_of t) (node_function s) (write_function t) (outputs_of t) (outputs_on t) made
-          c.lines c.limit c.limit c.gates start borrow (subst IsComparable there said);
+          c.lines c.limit c.limit c.gates placing borrow (subst IsComparable there said);
       verified = λ said. verified_moved t.params (length s.nodes) (writes_of t) (node_function s) (write_function t) (outputs_of t) (outputs_on t) made
-          c.lines c.limit c.limit c.gates start borrow (subst IsVerified there said);
+          c.lines c.limit c.limit c.gates placing borrow (subst IsVerified there said);
       refused = λ fault said. fault_moved t.params (length s.nodes) (writes_of t) (node_function s) (write_function t) (outputs_of t) (outputs_on t) made
-          c.lines c.limit c.limit c.gates start borrow limit fault (subst (λ (q : Comparison). IsVerifyFault q limit fault) there said);
+          c.lines c.limit c.limit c.gates placing borrow limit fault (subst (λ (q : Comparison). IsVerifyFault q limit fault) there said);
     }

@@ -1,6 +1,6 @@
 -- What the numbers of the lines say of a circuit.
 use Rattle.std.proofs.Common.{◌≡◌, ◌≢◌, ℕ, ◌+◌, ◌<◌, Bool, true, false, List, ◌++◌, length, map, take, drop, get_or, refl, sym, ap, ap₂, ◌∙◌, subst, arith}
-use Rattle.std.proofs.Common.{IsFalse, IsTrue, length-append}
+use Rattle.std.proofs.Common.{IsFalse, IsTrue, append_assoc, length-append, sum}
 use Rattle.std.specs.Bool.{xor}
 use Rattle.std.proofs.lemmas.Bool.{true≢false}
 use Rattle.std.proofs.lemmas.List.{get_or-map, get_or-take, length-drop, length-map, length-replicate, length-take-le}
@@ -13,12 +13,14 @@ use Rattle.decision_diagram.specs.Functions.{AreSame, Assignment, IsLeast, exclu
 use Rattle.claim_check.specs.Variables.{AreVariables}
 use Rattle.claim_check.proofs.VariableLemmas.{assignment_at, bits_of_assignment, placed_bits}
 use Rattle.claim_check.proofs.VerdictLemmas.{least_on}
-use Rattle.mct_circuit.specs.Gates.{AreGatesOn, GateView, line_map}
+use Rattle.mct_circuit.specs.Gates.{AreGatesOn, CircuitView, GateView, line_map}
 use Rattle.mct_circuit.proofs.ReversalLemmas.{length-line_map}
 use Rattle.circuit_plans.specs.Plans.{added}
-use Rattle.circuit_verify.specs.Comparisons.{Comparison, Agrees, AreBitsFor, borrowed_bits, held_by, inputs_in, order_in, output_bits}
-use Rattle.circuit_verify.specs.Comparisons.{output_variables, start_on, variables_in, wanted_on, work_lines}
-use Rattle.circuit_verify.specs.Verdicts.{DiffersFirst, HasEnoughLines, IsRight}
+use Rattle.circuit_plans.specs.declared.roles.Placing.{Placing}
+use Rattle.circuit_plans.specs.declared.roles.Placing.TheVariants.{Added, InPlace}
+use Rattle.circuit_verify.specs.Comparisons.{Comparison, Agrees, AreBitsFor, Specification, beside, borrowed_bits, held_by, inputs_in, order_in, output_bits}
+use Rattle.circuit_verify.specs.Comparisons.{output_lines, output_variables, start_on, variables_in, wanted_on, work_lines}
+use Rattle.circuit_verify.specs.Verdicts.{DiffersFirst, FillsInputs, HasEnoughLines, HasEnoughOutputs, IsRight}
 use Rattle.circuit_verify.specs.inside.Numbers.{AreEnds, DifferAt, IsLeastApart, bits_in}
 use Rattle.circuit_verify.proofs.HeldLemmas.{borrowed_back, given_by, held_back, length-given_by, length-held_by}
 use Rattle.circuit_verify.proofs.NumberLemmas.{bit-at, length-bits_in, length-numbers}
@@ -29,7 +31,7 @@ use Rattle.circuit_verify.proofs.OrderLemmas.{ordered_in}
 pub length-start_on : (q : Comparison) (bits : List Bool) → HasEnoughLines q → AreBitsFor q bits → length (start_on q bits) ≡ q.circuit.lines
 length-start_on q bits enough size =
     let n : ℕ = inputs_in q in
-    let v : ℕ = output_variables q.start q.program.outputs in
+    let v : ℕ = output_variables q.placing (output_lines q) in
     let w : ℕ = work_lines q in
     let behind : List Bool = drop n bits in
     let held : List Bool = output_bits q bits in
@@ -40,7 +42,7 @@ length-start_on q bits enough size =
       arith,
       length-take-le n bits (omega (arith, size)),
       length-append held (zeros w ++ borrowed),
-      length-held_by q.start q.program.outputs q.borrow behind rest,
+      length-held_by q.placing (output_lines q) q.borrow behind rest,
       length-append (zeros w) borrowed,
       length-replicate w false,
       length-drop v behind,
@@ -63,32 +65,66 @@ same_lines gates work value i j h k b c one two three is =
     (subst (λ (z : List Bool). line_map gates (i ++ (z ++ (work ++ c))) ≡ i ++ (added z (value i) ++ (work ++ c))) two
     (subst (λ (z : List Bool). line_map gates (i ++ (h ++ (work ++ z))) ≡ i ++ (added h (value i) ++ (work ++ z))) three is))
 
+same_in_place : (gates : List GateView) (idle : List Bool) (value : List Bool → List Bool) (i j b c : List Bool) → i ≡ j → b ≡ c
+    → line_map gates (i ++ (idle ++ b)) ≡ value i ++ b → line_map gates (j ++ (idle ++ c)) ≡ value j ++ c
+same_in_place gates idle value i j b c one two is =
+    subst (λ (z : List Bool). line_map gates (z ++ (idle ++ c)) ≡ value z ++ c) one
+    (subst (λ (z : List Bool). line_map gates (i ++ (idle ++ z)) ≡ value i ++ z) two is)
+
 -- where all lines always end as they should, the circuit agrees
-pub agrees_where : (q : Comparison) → ((input : List Bool) → length (q.program.value input) ≡ q.program.outputs)
-    → ((bits : List Bool) → AreBitsFor q bits → line_map q.circuit.gates (start_on q bits) ≡ wanted_on q bits) → Agrees q
-agrees_where q many ended = record {
+abbrev EndsRight : Comparison → Type 0
+EndsRight q = (bits : List Bool) → AreBitsFor q bits → line_map q.circuit.gates (start_on q bits) ≡ wanted_on q bits
+
+agrees_by : (program : Specification) (circuit : CircuitView) (placing : Placing) (borrow : ℕ)
+    → ((input : List Bool) → length (program.value input) ≡ program.outputs) → FillsInputs placing (sum program.params) program.outputs
+    → EndsRight (beside program circuit placing borrow) → Agrees (beside program circuit placing borrow)
+agrees_by program circuit (Added start) borrow many fills ended = record {
   size = λ input size. many input;
   adds = λ input held borrowed size wide may more.
+      let q = beside program circuit (Added start) borrow in
       let n : ℕ = inputs_in q in
-      let o : ℕ = q.program.outputs in
-      let v : ℕ = output_variables q.start o in
-      let given : List Bool = given_by q.start held in
+      let o : ℕ = program.outputs in
+      let v : ℕ = output_variables (Added start) o in
+      let given : List Bool = given_by start held in
       let bits : List Bool = input ++ (given ++ borrowed) in
-      let count : length given ≡ v = length-given_by q.start held ∙ ap (output_variables q.start) wide in
+      let count : length given ≡ v = length-given_by start held ∙ ap (output_variables (Added start)) wide in
       let are : AreBitsFor q bits = length-append input (given ++ borrowed) ∙ omega (arith, size, more, length-append given borrowed, count) in
       let front : take n bits ≡ input = ap (λ (n : ℕ). take n bits) (sym size) ∙ take-append_seam input (given ++ borrowed) in
       let back : drop n bits ≡ given ++ borrowed = ap (λ (n : ℕ). drop n bits) (sym size) ∙ drop-append_seam input (given ++ borrowed) in
-      let outputs : output_bits q bits ≡ held = ap (held_by q.start o) back ∙ held_back q.start o held borrowed wide may in
-      let others : borrowed_bits q bits ≡ borrowed = ap (drop v) back ∙ borrowed_back q.start o held borrowed wide in
+      let outputs : output_bits q bits ≡ held = ap (held_by (Added start) o) back ∙ held_back start o held borrowed wide may in
+      let others : borrowed_bits q bits ≡ borrowed = ap (drop v) back ∙ borrowed_back start o held borrowed wide in
       record {
-        mapped = same_lines q.circuit.gates (zeros (work_lines q)) q.program.value (take n bits) input (output_bits q bits) held (borrowed_bits q bits)
-            borrowed front outputs others (ended bits are);
+        mapped = same_lines circuit.gates (zeros (work_lines q)) program.value (take n bits) input (output_bits q bits) held (borrowed_bits q bits)
+            borrowed front outputs others
+            (ended bits are ∙ append_assoc (take n bits) (added (output_bits q bits) (program.value (take n bits)))
+            (zeros (work_lines q) ++ borrowed_bits q bits));
+      };
+}
+agrees_by program circuit InPlace borrow many fills ended = record {
+  size = λ input size. many input ∙ omega (arith, fills);
+  replaces = λ input borrowed size more.
+      let q = beside program circuit InPlace borrow in
+      let n : ℕ = inputs_in q in
+      let w : ℕ = work_lines q in
+      let idle : List Bool = zeros (output_lines q) in
+      let bits : List Bool = input ++ borrowed in
+      let are : AreBitsFor q bits = length-append input borrowed ∙ omega (arith, size, more) in
+      let front : take n bits ≡ input = ap (λ (n : ℕ). take n bits) (sym size) ∙ take-append_seam input borrowed in
+      let back : drop n bits ≡ borrowed = ap (λ (n : ℕ). drop n bits) (sym size) ∙ drop-append_seam input borrowed in
+      record {
+        mapped = same_in_place circuit.gates idle program.value (take n bits) input (zeros w ++ drop n bits) (zeros w ++ borrowed) front
+            (ap (λ (z : List Bool). zeros w ++ z) back) (ended bits are);
       };
 }
 
+pub agrees_where : (q : Comparison) → ((input : List Bool) → length (q.program.value input) ≡ q.program.outputs) → HasEnoughOutputs q
+    → EndsRight q → Agrees q
+agrees_where q = agrees_by q.program q.circuit q.placing q.borrow
+
 pub agrees : (q : Comparison) (nodes : List Triple) (now want : List ℕ)
-    → ((input : List Bool) → length (q.program.value input) ≡ q.program.outputs) → AreEnds q nodes now want → now ≡ want → Agrees q
-agrees q nodes now want many ends same = agrees_where q many (λ bits are.
+    → ((input : List Bool) → length (q.program.value input) ≡ q.program.outputs) → HasEnoughOutputs q → AreEnds q nodes now want → now ≡ want
+    → Agrees q
+agrees q nodes now want many enough ends same = agrees_where q many enough (λ bits are.
     let a : Assignment = assignment_at (ordered_in q) bits in
     let ended : line_map q.circuit.gates (start_on q (bits_in q a)) ≡ wanted_on q (bits_in q a) =
     sym (ends.now_are.same a) ∙ ap (λ (ns : List ℕ). map (λ n. function_of nodes n a) ns) same ∙ ends.want_are.same a in

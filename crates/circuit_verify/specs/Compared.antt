@@ -5,7 +5,7 @@ use Rattle.revs_tape.specs.Tapes.{AreWidths}
 use Rattle.claim_check.specs.Settled.{SettledView, IsSettled}
 use Rattle.mct_circuit.specs.Gates.{CircuitView, AreGatesOn}
 use Rattle.circuit_plans.specs.declared.plan.TheConstants.{MOST_BORROWED}
-use Rattle.circuit_plans.specs.declared.roles.Start.{Start}
+use Rattle.circuit_plans.specs.declared.roles.Placing.{Placing}
 use Rattle.circuit_verify.specs.Comparisons.{Comparison, beside, of_settled}
 use Rattle.circuit_verify.specs.Verdicts.{IsComparable}
 
@@ -13,11 +13,11 @@ pub record ComparedView : Type 0 where
   pub graph : SettledView
   pub params : List ℕ
   pub circuit : CircuitView
-  pub start : Start
+  pub placing : Placing
   pub borrow : ℕ
 
 abbrev pub comparison : ComparedView → Comparison
-comparison v = beside (of_settled v.params v.graph) v.circuit v.start v.borrow
+comparison v = beside (of_settled v.params v.graph) v.circuit v.placing v.borrow
 
 pub record IsReady (v : ComparedView) : Type 0 where
   pub widths : AreWidths v.params

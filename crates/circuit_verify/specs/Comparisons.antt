@@ -8,10 +8,11 @@ use Rattle.revs_tape.specs.VariableOrders.{variable_order}
 use Rattle.claim_check.specs.Measures.{node_function, write_function}
 use Rattle.claim_check.specs.Settled.{SettledView, settled_outputs}
 use Rattle.mct_circuit.specs.Gates.{CircuitView}
+use Rattle.circuit_plans.specs.declared.roles.Placing.{Placing}
+use Rattle.circuit_plans.specs.declared.roles.Placing.TheVariants.{Added, InPlace}
 use Rattle.circuit_plans.specs.declared.roles.Roles.{Roles}
-use Rattle.circuit_plans.specs.declared.roles.Start.{Start}
 use Rattle.circuit_plans.specs.declared.roles.Start.TheVariants.{Any, Zero}
-use Rattle.circuit_plans.specs.Plans.{AddsOutputs, added}
+use Rattle.circuit_plans.specs.Plans.{PlacesOutputs, added}
 
 -- ---- programs
 
@@ -42,29 +43,37 @@ of_tape t = record {
   value = outputs_on t;
 }
 
--- a circuit, the program that it is to compute, what its output lines may hold before the gates,
--- and how many of its lines are borrowed
+-- a circuit, the program that it is to compute, where it puts the outputs, and how many of its lines
+-- are borrowed
 pub record Comparison : Type 0 where
   pub program : Specification
   pub circuit : CircuitView
-  pub start : Start
+  pub placing : Placing
   pub borrow : ℕ
 
--- a program beside a circuit, whose output lines may hold this at the start, with so many borrowed
--- lines
-abbrev pub beside : Specification → CircuitView → Start → ℕ → Comparison
-beside program circuit start borrow =
-    record { program = program; circuit = circuit; start = start; borrow = borrow }
+-- a program beside a circuit, which puts the outputs there, with so many borrowed lines
+abbrev pub beside : Specification → CircuitView → Placing → ℕ → Comparison
+beside program circuit placing borrow =
+    record { program = program; circuit = circuit; placing = placing; borrow = borrow }
 
--- ---- lines: those of the inputs come first, then those of the outputs, the work lines and the
+-- ---- lines: those of the inputs come first, then the output lines, the work lines and the
 -- borrowed ones
 
 abbrev pub inputs_in : Comparison → ℕ
 inputs_in q = sum q.program.params
 
--- the least number of lines: one for each input and each output, and the borrowed ones
+-- how many output lines there are for so many inputs and outputs: one for each output, and in place
+-- one for each output beyond the number of inputs
+abbrev pub lines_for : Placing → ℕ → ℕ → ℕ
+lines_for (Added start) inputs outputs = outputs
+lines_for InPlace inputs outputs = outputs - inputs
+
+abbrev pub output_lines : Comparison → ℕ
+output_lines q = lines_for q.placing (inputs_in q) q.program.outputs
+
+-- the least number of lines: the input lines, the output lines and the borrowed ones
 abbrev pub least_lines : Comparison → ℕ
-least_lines q = inputs_in q + q.program.outputs + q.borrow
+least_lines q = inputs_in q + output_lines q + q.borrow
 
 abbrev pub work_lines : Comparison → ℕ
 work_lines q = q.circuit.lines - least_lines q
@@ -72,28 +81,29 @@ work_lines q = q.circuit.lines - least_lines q
 abbrev pub roles_in : Comparison → Roles
 roles_in q = record {
   inputs = inputs_in q;
-  outputs = q.program.outputs;
+  outputs = output_lines q;
   work = work_lines q;
   borrowed = q.borrow;
 }
 
 -- on every input, whatever the output lines hold that they may, and whatever the borrowed lines
--- hold, the circuit adds the program's outputs to the output lines, and leaves all other lines as
--- they were, the work lines at 0
+-- hold, the circuit puts the program's outputs where they belong, and leaves all other lines as they
+-- were, the work lines at 0
 abbrev pub Agrees : Comparison → Type 0
-Agrees q = AddsOutputs q.start (roles_in q) q.circuit.gates q.program.value
+Agrees q = PlacesOutputs q.placing (roles_in q) q.circuit.gates q.program.value
 
 -- ---- variables: the inputs in their order, then the output lines where they may hold any bits,
 -- and then the borrowed lines
 
 -- how many of so many output lines have a variable
-abbrev pub output_variables : Start → ℕ → ℕ
-output_variables Any outputs = outputs
-output_variables Zero outputs = 0
+abbrev pub output_variables : Placing → ℕ → ℕ
+output_variables (Added Any) lines = lines
+output_variables (Added Zero) lines = 0
+output_variables InPlace lines = 0
 
 -- how many lines behind those of the inputs have one
 abbrev pub variables_behind : Comparison → ℕ
-variables_behind q = output_variables q.start q.program.outputs + q.borrow
+variables_behind q = output_variables q.placing (output_lines q) + q.borrow
 
 abbrev pub variables_in : Comparison → ℕ
 variables_in q = inputs_in q + variables_behind q
@@ -112,24 +122,32 @@ abbrev pub input_bits : Comparison → List Bool → List Bool
 input_bits q bits = take (inputs_in q) bits
 
 -- what the output lines hold before the gates, by the bits behind those of the inputs
-abbrev pub held_by : Start → ℕ → List Bool → List Bool
-held_by Any outputs behind = take outputs behind
-held_by Zero outputs behind = zeros outputs
+abbrev pub held_by : Placing → ℕ → List Bool → List Bool
+held_by (Added Any) lines behind = take lines behind
+held_by (Added Zero) lines behind = zeros lines
+held_by InPlace lines behind = zeros lines
 
 abbrev pub output_bits : Comparison → List Bool → List Bool
-output_bits q bits = held_by q.start q.program.outputs (drop (inputs_in q) bits)
+output_bits q bits = held_by q.placing (output_lines q) (drop (inputs_in q) bits)
 
 abbrev pub borrowed_bits : Comparison → List Bool → List Bool
-borrowed_bits q bits = drop (output_variables q.start q.program.outputs) (drop (inputs_in q) bits)
+borrowed_bits q bits = drop (output_variables q.placing (output_lines q)) (drop (inputs_in q) bits)
 
 -- the bits of the lines before the gates
 abbrev pub start_on : Comparison → List Bool → List Bool
 start_on q bits =
     input_bits q bits ++ (output_bits q bits ++ (zeros (work_lines q) ++ borrowed_bits q bits))
 
+-- the bits that the input lines and the output lines should have behind the gates: the outputs are
+-- added to what the output lines hold, or take the place of the inputs
+abbrev pub put_by : Placing → (input held outputs : List Bool) → List Bool
+put_by (Added start) input held outputs = input ++ added held outputs
+put_by InPlace input held outputs = outputs
+
+abbrev pub wanted_ports : Comparison → List Bool → List Bool
+wanted_ports q bits =
+    put_by q.placing (input_bits q bits) (output_bits q bits) (q.program.value (input_bits q bits))
+
 -- the bits that the lines should have behind the gates
 abbrev pub wanted_on : Comparison → List Bool → List Bool
-wanted_on q bits =
-    input_bits q bits
-    ++ (added (output_bits q bits) (q.program.value (input_bits q bits))
-    ++ (zeros (work_lines q) ++ borrowed_bits q bits))
+wanted_on q bits = wanted_ports q bits ++ (zeros (work_lines q) ++ borrowed_bits q bits)

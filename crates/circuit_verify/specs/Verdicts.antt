@@ -1,5 +1,5 @@
 -- What is said of a circuit that is compared with a program.
-use Rattle.std.specs.Prelude.{◌≡◌, ℕ, ◌<◌, ◌≤◌, Bool, List}
+use Rattle.std.specs.Prelude.{◌≡◌, ℕ, ◌<◌, ◌≤◌, Bool, List, ⊤}
 use Rattle.list_facts.specs.Bits.{bit_of}
 use Rattle.list_facts.specs.Lists.{IsFirstWithout}
 use Rattle.revs_tape.specs.Tapes.{TapeView}
@@ -9,22 +9,37 @@ use Rattle.decision_diagram.specs.declared.node.DdFault.TheVariants as dd
 use Rattle.claim_check.specs.Settled.{SettledView, IsSettledOf}
 use Rattle.mct_circuit.specs.Gates.{CircuitView, GateView, IsNarrow, AreNarrow, line_map}
 use Rattle.circuit_verify.specs.declared.fault.NotComparable.{NotComparable}
-use Rattle.circuit_verify.specs.declared.fault.NotComparable.TheVariants.{Lines, Gate}
+use Rattle.circuit_verify.specs.declared.fault.NotComparable.TheVariants.{Outputs, Lines, Gate}
 use Rattle.circuit_verify.specs.declared.fault.VerifyFault.{VerifyFault}
 use Rattle.circuit_verify.specs.declared.fault.VerifyFault.TheVariants as faults
-use Rattle.circuit_plans.specs.declared.roles.Start.{Start}
-use Rattle.circuit_verify.specs.Comparisons.{Comparison, Agrees, AreBitsFor, beside, least_lines}
+use Rattle.circuit_plans.specs.declared.roles.Placing.{Placing}
+use Rattle.circuit_plans.specs.declared.roles.Placing.TheVariants.{Added, InPlace}
+use Rattle.circuit_verify.specs.Comparisons.{Comparison, Agrees, AreBitsFor, beside, inputs_in, least_lines}
 use Rattle.circuit_verify.specs.Comparisons.{of_settled, of_tape, order_in, start_on, wanted_on}
 use Rattle.circuit_verify.specs.LineFunctions.{HasMore}
 
 -- ---- what can be compared
 
--- the circuit has a line for each input, each output and each borrowed line
+-- in place there is an output for each input line
+abbrev pub FillsInputs : Placing → ℕ → ℕ → Type 0
+FillsInputs (Added start) inputs outputs = ⊤
+FillsInputs InPlace inputs outputs = inputs ≤ outputs
+
+abbrev pub HasEnoughOutputs : Comparison → Type 0
+HasEnoughOutputs q = FillsInputs q.placing (inputs_in q) q.program.outputs
+
+-- the program has so few outputs that some inputs have none in their place
+abbrev pub HasFewOutputs : Comparison → Type 0
+HasFewOutputs q = (q.placing ≡ InPlace) × (q.program.outputs < inputs_in q)
+
+-- the circuit has all input lines, output lines and borrowed lines
 abbrev pub HasEnoughLines : Comparison → Type 0
 HasEnoughLines q = least_lines q ≤ q.circuit.lines
 
--- the circuit has enough lines, and its gates are flips with at most two controls, all positive
+-- the program has enough outputs and the circuit enough lines, and its gates are flips with at most
+-- two controls, all positive
 pub record IsComparable (q : Comparison) : Type 0 where
+  pub outputs : HasEnoughOutputs q
   pub lines : HasEnoughLines q
   pub narrow : AreNarrow q.circuit.gates
 
@@ -32,10 +47,14 @@ pub record IsComparable (q : Comparison) : Type 0 where
 abbrev pub IsFirstWide : List GateView → ℕ → Type 0
 IsFirstWide gates at = IsFirstWithout IsNarrow gates at
 
--- why the two cannot be compared: first the lines, then the gates
+-- why the two cannot be compared: first the outputs, then the lines, then the gates
 abbrev pub IsNotComparable : Comparison → NotComparable → Type 0
-IsNotComparable q (Lines need) = (q.circuit.lines < need) × (need ≡ least_lines q)
-IsNotComparable q (Gate gate) = HasEnoughLines q × IsFirstWide q.circuit.gates gate
+IsNotComparable q (Outputs inputs outputs) =
+    HasFewOutputs q × (inputs ≡ inputs_in q) × (outputs ≡ q.program.outputs)
+IsNotComparable q (Lines need) =
+    HasEnoughOutputs q × (q.circuit.lines < need) × (need ≡ least_lines q)
+IsNotComparable q (Gate gate) =
+    HasEnoughOutputs q × HasEnoughLines q × IsFirstWide q.circuit.gates gate
 
 -- ---- where the circuit differs
 
@@ -78,9 +97,10 @@ verify_fault (dd.Memory _) = faults.Memory _
 
 -- ---- laws
 
--- a circuit that is verified differs nowhere and has no wide gate, and what is named is the only
--- one
+-- a program does not have both few and enough outputs, a circuit that is verified differs nowhere and
+-- has no wide gate, and what is named is the only one
 pub record EndsInOneWay (q : Comparison) : Type 0 where
+  pub few_or_enough : HasFewOutputs q → HasEnoughOutputs q → ⊥
   pub no_gate : (gate : ℕ) → AreNarrow q.circuit.gates → IsFirstWide q.circuit.gates gate → ⊥
   pub one_gate : (gate other : ℕ) → IsFirstWide q.circuit.gates gate
       → IsFirstWide q.circuit.gates other → gate ≡ other
@@ -94,21 +114,21 @@ abbrev pub ComparisonsEndInOneWay : Type 0
 ComparisonsEndInOneWay = (q : Comparison) → EndsInOneWay q
 
 -- what is said of the settled graph of a tape is said of the tape
-pub record IsSaidOfTape (t : TapeView) (s : SettledView) (c : CircuitView) (start : Start)
+pub record IsSaidOfTape (t : TapeView) (s : SettledView) (c : CircuitView) (placing : Placing)
     (borrow limit : ℕ) : Type 0 where
   pub not_comparable : (why : NotComparable)
-      → IsNotComparable (beside (of_settled t.params s) c start borrow) why
-      → IsNotComparable (beside (of_tape t) c start borrow) why
-  pub comparable : IsComparable (beside (of_settled t.params s) c start borrow)
-      → IsComparable (beside (of_tape t) c start borrow)
-  pub verified : IsVerified (beside (of_settled t.params s) c start borrow)
-      → IsVerified (beside (of_tape t) c start borrow)
+      → IsNotComparable (beside (of_settled t.params s) c placing borrow) why
+      → IsNotComparable (beside (of_tape t) c placing borrow) why
+  pub comparable : IsComparable (beside (of_settled t.params s) c placing borrow)
+      → IsComparable (beside (of_tape t) c placing borrow)
+  pub verified : IsVerified (beside (of_settled t.params s) c placing borrow)
+      → IsVerified (beside (of_tape t) c placing borrow)
   pub refused : (fault : VerifyFault)
-      → IsVerifyFault (beside (of_settled t.params s) c start borrow) limit fault
-      → IsVerifyFault (beside (of_tape t) c start borrow) limit fault
+      → IsVerifyFault (beside (of_settled t.params s) c placing borrow) limit fault
+      → IsVerifyFault (beside (of_tape t) c placing borrow) limit fault
 
 -- The law: what is said of settled graphs is said of their tapes, whose steps are the writes.
 abbrev pub SaidOfTapes : Type 0
 SaidOfTapes = (t : TapeView) (s : SettledView) → IsSettledOf t s
-    → (c : CircuitView) (start : Start) (borrow limit : ℕ)
-    → IsSaidOfTape t s c start borrow limit
+    → (c : CircuitView) (placing : Placing) (borrow limit : ℕ)
+    → IsSaidOfTape t s c placing borrow limit

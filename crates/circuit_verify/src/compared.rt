@@ -1,16 +1,18 @@
 // A circuit beside the settled graph that it is to compute.
-ghost use Rattle.std.specs.Prelude.{◌≡◌, ◌≤◌, ◌+◌, length, sum, IfErr, IfOk};
+ghost use Rattle.std.specs.Prelude.{◌≡◌, ◌≤◌, ◌<◌, ◌+◌, length, sum, IfErr, IfOk};
+ghost use Rattle.std.specs.Prelude.{IsFalse, IsTrue};
 ghost use Rattle.revs_tape.specs.Tapes.{AreWidths};
 ghost use Rattle.circuit_plans.specs.declared.plan.TheConstants.{MOST_BORROWED};
-ghost use Rattle.circuit_verify.specs.Comparisons.{beside, inputs_in, of_settled};
-ghost use Rattle.circuit_verify.specs.Comparisons.{output_variables, variables_in};
-ghost use Rattle.circuit_verify.specs.Comparisons.{work_lines};
+ghost use Rattle.circuit_plans.specs.declared.roles.Placing.TheVariants.{InPlace};
+ghost use Rattle.circuit_verify.specs.Comparisons.{beside, inputs_in, lines_for, of_settled};
+ghost use Rattle.circuit_verify.specs.Comparisons.{output_lines, output_variables};
+ghost use Rattle.circuit_verify.specs.Comparisons.{variables_in, work_lines};
 ghost use Rattle.circuit_verify.specs.Compared.{IsReady, comparison, ComparedView};
-ghost use Rattle.circuit_verify.specs.Verdicts.{IsNotComparable};
+ghost use Rattle.circuit_verify.specs.Verdicts.{FillsInputs, IsNotComparable};
 
 use crate::NotComparable;
 use crate::gates::first_wide;
-use circuit_plans::Start;
+use circuit_plans::{Placing, Start};
 use claim_check::Settled;
 use mct_circuit::Circuit;
 use std::marker::Model;
@@ -25,8 +27,8 @@ pub struct Compared<'s> {
     pub params: &'s [u32],
     /// The circuit.
     pub circuit: &'s Circuit,
-    /// What its output lines may hold before the gates.
-    pub start: Start,
+    /// Where it puts the outputs.
+    pub placing: Placing,
     /// How many of its lines, the last ones, are borrowed.
     pub borrow: u32,
 }
@@ -38,7 +40,7 @@ impl<'s> Model for Compared<'s> {
       graph = c.graph.now;
       params = c.params.now;
       circuit = c.circuit.now;
-      start = c.start;
+      placing = c.placing;
       borrow = c.borrow;
     } };
 
@@ -46,26 +48,26 @@ impl<'s> Model for Compared<'s> {
       graph = c.graph.now;
       params = c.params.now;
       circuit = c.circuit.now;
-      start = c.start;
+      placing = c.placing;
       borrow = c.borrow;
     }) };
 }
 
 impl<'s> Compared<'s> {
-    /// A circuit beside the settled graph whose outputs it is to compute, with parameters of these
-    /// widths: its lines are those of the inputs, then those of the outputs, which may hold before
-    /// the gates what `start` lets them hold, then the work lines, then the last `borrow` lines,
-    /// which may hold anything. It takes no memory.
+    /// A circuit beside the settled graph whose outputs it is to put where `placing` says, with
+    /// parameters of these widths: its lines are those of the inputs, then the output lines, then
+    /// the work lines, then the last `borrow` lines, which may hold anything. It takes no memory.
     ///
     /// # Errors
     ///
-    /// In this order: `Lines` exactly where there are too few, `Gate` exactly where a gate is no
-    /// flip with at most two controls, all positive.
+    /// In this order: `Outputs` exactly where the outputs are to be in place and are fewer than the
+    /// inputs, `Lines` exactly where there are too few lines, `Gate` exactly where a gate is no flip
+    /// with at most two controls, all positive.
     pub fn of(
         graph: &'s Settled,
         params: &'s [u32],
         circuit: &'s Circuit,
-        start: Start,
+        placing: Placing,
         borrow: u32,
     ) -> Result<Compared<'s>, NotComparable>
         requires widths { AreWidths params.now }
@@ -75,14 +77,18 @@ impl<'s> Compared<'s> {
           graph = graph.now;
           params = params.now;
           circuit = circuit.now;
-          start = start;
+          placing = placing;
           borrow = borrow;
         }) }
         ensures ready { IfOk result IsReady }
         ensures refused { IfErr result (IsNotComparable
-            (beside (of_settled params.now graph.now) circuit.now start borrow)) }
+            (beside (of_settled params.now graph.now) circuit.now placing borrow)) }
     {
-        let need = graph.inputs() + graph.outputs().len() as u32 + borrow;
+        let (inputs, outputs) = (graph.inputs(), graph.outputs().len() as u32);
+        if are_few(placing, inputs, outputs) {
+            return Err(NotComparable::Outputs { inputs, outputs });
+        }
+        let need = inputs + lines_for(placing, inputs, outputs) + borrow;
         if circuit.lines() < need {
             return Err(NotComparable::Lines { need });
         }
@@ -93,7 +99,7 @@ impl<'s> Compared<'s> {
             graph,
             params,
             circuit,
-            start,
+            placing,
             borrow,
         })
     }
@@ -109,20 +115,21 @@ impl<'s> Compared<'s> {
     /// How many output lines have variables.
     pub fn output_variables(&self) -> u32
         ensures count { result
-            ≡ output_variables self.now.start (length self.now.graph.outputs) }
-        ensures few { result ≤ length self.now.graph.outputs }
+            ≡ output_variables self.now.placing (output_lines (comparison self.now)) }
+        ensures few { result ≤ output_lines (comparison self.now) }
     {
-        match self.start {
-            Start::Any => self.outputs(),
-            Start::Zero => 0,
+        match self.placing {
+            Placing::Added(Start::Any) => self.output_lines(),
+            Placing::Added(Start::Zero) => 0,
+            Placing::InPlace => 0,
         }
     }
 
-    /// What the output lines may hold before the gates.
-    pub fn start(&self) -> Start
-        ensures { result ≡ self.now.start }
+    /// Where the circuit puts the outputs.
+    pub fn placing(&self) -> Placing
+        ensures { result ≡ self.now.placing }
     {
-        self.start
+        self.placing
     }
 
     /// How many lines are input lines.
@@ -133,6 +140,13 @@ impl<'s> Compared<'s> {
     }
 
     /// How many are output lines.
+    pub fn output_lines(&self) -> u32
+        ensures { result ≡ output_lines (comparison self.now) }
+    {
+        lines_for(self.placing, self.graph.inputs(), self.outputs())
+    }
+
+    /// How many outputs there are.
     pub fn outputs(&self) -> u32
         ensures { result ≡ length self.now.graph.outputs }
     {
@@ -143,7 +157,28 @@ impl<'s> Compared<'s> {
     pub fn work(&self) -> u32
         ensures { result ≡ work_lines (comparison self.now) }
     {
-        let used = self.graph.inputs() + self.outputs() + self.borrow;
+        let used = self.graph.inputs() + self.output_lines() + self.borrow;
         self.circuit.lines() - used
+    }
+}
+
+// In place there are fewer outputs than inputs.
+fn are_few(placing: Placing, inputs: u32, outputs: u32) -> bool
+    ensures few { IsTrue result → (placing ≡ InPlace) × (outputs < inputs) }
+    ensures enough { IsFalse result → FillsInputs placing inputs outputs }
+{
+    match placing {
+        Placing::Added(_) => false,
+        Placing::InPlace => outputs < inputs,
+    }
+}
+
+// How many output lines there are for so many inputs and outputs.
+fn lines_for(placing: Placing, inputs: u32, outputs: u32) -> u32
+    ensures { result ≡ lines_for placing inputs outputs }
+{
+    match placing {
+        Placing::Added(_) => outputs,
+        Placing::InPlace => outputs.saturating_sub(inputs),
     }
 }

@@ -10,8 +10,10 @@ use std::alloc::{AllocError, AllocFailed};
 /// Why a circuit cannot be compared with a program. Gates are counted from 0.
 #[derive(Clone, Copy, Debug, PartialEq, Eq)]
 pub enum NotComparable {
-    /// The circuit has fewer lines than `need`: one for each input and each output, and the
-    /// borrowed ones.
+    /// The program has fewer outputs than inputs, whose place they are to take.
+    Outputs { inputs: u32, outputs: u32 },
+    /// The circuit has fewer lines than `need`: the input lines, the output lines and the borrowed
+    /// ones.
     Lines { need: u32 },
     /// The gate is the first that is no flip with at most two controls, all positive.
     Gate { gate: u64 },

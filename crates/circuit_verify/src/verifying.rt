@@ -13,7 +13,8 @@ use std::alloc::Global;
 
 /// Verifies that a circuit computes the outputs of a settled graph: on every input, whatever the
 /// output lines hold that they may, with 0 on the work lines and whatever the borrowed lines hold,
-/// the outputs are added to the output lines, and every other line is left as it was.
+/// the outputs are added to the output lines, or take the place of the inputs, and every other line
+/// is left as it was.
 ///
 /// `limit` bounds the inner nodes of the decision diagram of all functions that the nodes and the
 /// lines come to hold, and that the output lines should hold. One gate is one call of the diagram,

@@ -18,7 +18,7 @@ ghost use Rattle.circuit_verify.specs.Comparisons.{order_in, variables_in};
 use crate::VerifyFault;
 use crate::compared::Compared;
 use crate::gates::target_of;
-use crate::outputs::output_numbers;
+use crate::outputs::port_numbers;
 use crate::places::number_bits;
 use decision_diagram::{Dd, DdFault, Diagram};
 use mct_circuit::{Control, Gate};
@@ -31,40 +31,38 @@ pub struct Ends {
     pub want: Vec<Dd>,
 }
 
-// The numbers of all lines, where the variables and the output lines have theirs.
+// The numbers of all lines, where the variables, the input lines and the output lines have theirs.
 fn laid(
     alloc: Global,
     diagram: &Diagram,
     compared: &Compared,
     bits: &[Dd],
-    outputs: &[Dd],
+    ports: &[Dd],
 ) -> Result<Vec<Dd>, AllocError>
     requires { AreNumbersOf (comparison compared.now) diagram.now.nodes bits.now (λ bits. bits) }
     ensures { IfOk result (λ lines. AreLaid (comparison compared.now) diagram.now.nodes
-        outputs.now lines.items) }
+        ports.now lines.items) }
 {
     let _ = compared.variables(); // shows what is known of both
-    let (input, behind) = bits.split_at(compared.inputs() as usize);
+    let (_, behind) = bits.split_at(compared.inputs() as usize);
     let (_, borrowed) = behind.split_at(compared.output_variables() as usize);
     let never = diagram.truth(false);
     let idle = vec![in alloc; never; compared.work() as usize]?;
-    joined(alloc, input, outputs, &idle, borrowed)
+    all_lines(alloc, ports, &idle, borrowed)
 }
 
-// Four lists of numbers, one behind another.
-fn joined(
+// Three lists of numbers, one behind another.
+fn all_lines(
     alloc: Global,
-    input: &[Dd],
-    outputs: &[Dd],
+    ports: &[Dd],
     work: &[Dd],
     borrowed: &[Dd],
 ) -> Result<Vec<Dd>, AllocError>
     ensures { IfOk result (λ lines. lines.items
-        ≡ input.now ++ (outputs.now ++ (work.now ++ borrowed.now))) }
+        ≡ ports.now ++ (work.now ++ borrowed.now)) }
 {
     let mut lines = Vec::new(alloc);
-    lines.extend_from_slice(input)?;
-    lines.extend_from_slice(outputs)?;
+    lines.extend_from_slice(ports)?;
     lines.extend_from_slice(work)?;
     lines.extend_from_slice(borrowed)?;
     Ok(lines)
@@ -140,9 +138,9 @@ pub fn ends_of(
 {
     let _ = compared.variables(); // shows what is known of both
     let bits = number_bits(alloc, diagram, compared, variables)?;
-    let outputs = output_numbers(alloc, diagram, compared, &bits)?;
-    let want = laid(alloc, diagram, compared, &bits, &outputs.wanted)?;
-    let mut now = laid(alloc, diagram, compared, &bits, &outputs.held)?;
+    let ports = port_numbers(alloc, diagram, compared, &bits)?;
+    let want = laid(alloc, diagram, compared, &bits, &ports.wanted)?;
+    let mut now = laid(alloc, diagram, compared, &bits, &ports.first)?;
     walk(diagram, compared, &mut now)?;
     Ok(Ends { now, want })
 }

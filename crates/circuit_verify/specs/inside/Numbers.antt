@@ -1,5 +1,5 @@
 -- The numbers of bits, nodes and lines in a diagram.
-use Rattle.std.specs.Prelude.{◌≡◌, ◌≢◌, ℕ, ◌<◌, ◌≤◌, Bool, true, List, [], ◌∷◌, ◌++◌, length, map, replicate, take, slice_index}
+use Rattle.std.specs.Prelude.{◌≡◌, ◌≢◌, ℕ, ◌<◌, ◌≤◌, Bool, true, List, [], ◌∷◌, ◌++◌, length, map, replicate, take, slice_index, ⊤}
 use Rattle.std.specs.List.{AllByRecursion}
 use Rattle.list_facts.specs.Bits.{bit_of, zeros}
 use Rattle.dependency_graph.specs.declared.node.Base.{Base}
@@ -14,10 +14,11 @@ use Rattle.claim_check.specs.Settled.{SettledView}
 use Rattle.claim_check.specs.Variables.{bits_at, over}
 use Rattle.mct_circuit.specs.declared.gate.Control.{Control}
 use Rattle.mct_circuit.specs.Gates.{GateView, after_gate, line_map}
-use Rattle.circuit_plans.specs.declared.roles.Start.{Start}
+use Rattle.circuit_plans.specs.declared.roles.Placing.{Placing}
+use Rattle.circuit_plans.specs.declared.roles.Placing.TheVariants.{Added, InPlace}
 use Rattle.circuit_plans.specs.declared.roles.Start.TheVariants.{Any, Zero}
 use Rattle.circuit_verify.specs.Comparisons.{Comparison, order_in, start_on, variables_in, wanted_on}
-use Rattle.circuit_verify.specs.Comparisons.{borrowed_bits, input_bits, work_lines}
+use Rattle.circuit_verify.specs.Comparisons.{borrowed_bits, input_bits, output_bits, work_lines}
 use Rattle.circuit_verify.specs.LineFunctions.{Holder, IsMember, LineFunction, held_bit, value_on}
 
 -- ---- functions over the variables
@@ -95,16 +96,26 @@ control_numbers lines always (first ∷ (second ∷ rest)) =
     (slice_index lines first.line, slice_index lines second.line)
 
 -- the numbers of the output lines before the gates, by the numbers behind those of the inputs
-abbrev pub held_numbers : Start → ℕ → ℕ → List ℕ → List ℕ
-held_numbers Any outputs never behind = take outputs behind
-held_numbers Zero outputs never behind = replicate outputs never
+abbrev pub held_numbers : Placing → ℕ → ℕ → List ℕ → List ℕ
+held_numbers (Added Any) lines never behind = take lines behind
+held_numbers (Added Zero) lines never behind = replicate lines never
+held_numbers InPlace lines never behind = replicate lines never
 
--- numbers of all lines: whatever those of the output lines stand for, the others stand for the
--- inputs, zeros on the work lines, and what the borrowed lines hold
-pub record AreLaid (q : Comparison) (nodes : List Triple) (outputs lines : List ℕ) : Type 0 where
-  pub are : (value : List Bool → List Bool) → AreNumbersOf q nodes outputs value
-      → AreNumbersOf q nodes lines (λ bits. input_bits q bits ++ (value bits
-      ++ (zeros (work_lines q) ++ borrowed_bits q bits)))
+-- the outputs are added to what the output lines hold
+abbrev pub IsAdded : Placing → Type 0
+IsAdded (Added start) = ⊤
+IsAdded InPlace = ⊥
+
+-- the bits of the input lines and the output lines before the gates
+abbrev pub first_ports : Comparison → List Bool → List Bool
+first_ports q bits = input_bits q bits ++ output_bits q bits
+
+-- numbers of all lines: whatever those of the input lines and the output lines stand for, the others
+-- stand for zeros on the work lines, and for what the borrowed lines hold
+pub record AreLaid (q : Comparison) (nodes : List Triple) (ports lines : List ℕ) : Type 0 where
+  pub are : (value : List Bool → List Bool) → AreNumbersOf q nodes ports value
+      → AreNumbersOf q nodes lines
+      (λ bits. value bits ++ (zeros (work_lines q) ++ borrowed_bits q bits))
 
 -- where two lists of numbers first differ
 pub record DifferAt (now want : List ℕ) (line : ℕ) : Type 0 where

@@ -1,4 +1,4 @@
-use Rattle.std.proofs.Common.{◌≡◌, ◌++◌, ℕ, List, length, take, drop, replicate, ap, ap₂, ◌∙◌, arith}
+use Rattle.std.proofs.Common.{◌≡◌, ◌++◌, ℕ, List, length, drop, replicate, ap, ap₂, ◌∙◌, arith}
 use Rattle.std.proofs.lemmas.List.{length-drop}
 use Rattle.std.proofs.lemmas.Result.{IfOk-weaker}
 use Rattle.circuit_verify.specs.Compared.{comparison}
@@ -23,14 +23,13 @@ pub returns : goal.returns
 returns c =
     let q = comparison c.args.compared.now in
     let bits = c.args.bits.now in
-    let outputs = c.args.outputs.now in
+    let ports = c.args.ports.now in
     let rest = c.split_at-2.ensures.back ∙ ap (λ (ns : List ℕ). drop c.output_variables.result ns) c.split_at.ensures.back in
     let idle : c.deref.result.now ≡ replicate c.work.result c.truth-never.result =
     c.deref.ensures.value ∙ c.in_ok-idle.ensures.items_if_clones_equal (λ y same. same) in
-    IfOk-weaker c.joined.result _ _
-    (λ lines is. lines_laid q c.args.diagram.now.nodes bits outputs lines.items c.inputs.result c.output_variables.result c.work.result c.truth-never.result
+    IfOk-weaker c.all_lines.result _ _
+    (λ lines is. lines_laid q c.args.diagram.now.nodes bits ports lines.items c.inputs.result c.output_variables.result c.work.result c.truth-never.result
     c.inputs.ensures c.output_variables.ensures.count c.work.ensures
-    (is ∙ ap₂ (λ (i b : List ℕ). i ++ (outputs ++ (c.deref.result.now ++ b))) c.split_at.ensures.front rest
-    ∙ ap (λ (w : List ℕ). take c.inputs.result bits ++ (outputs ++ (w ++ drop c.output_variables.result (drop c.inputs.result bits)))) idle)
+    (is ∙ ap₂ (λ (w b : List ℕ). ports ++ (w ++ b)) idle rest)
     c.requires c.truth-never.ensures.stands)
-    c.joined.ensures
+    c.all_lines.ensures
