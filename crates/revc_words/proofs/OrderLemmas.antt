@@ -37,7 +37,7 @@ use Rattle.revc_words.specs.Words.{joined, parted, positional, IsOneOf, first_wo
 use Rattle.revc_words.specs.inside.Parsing.{Texts, aim_of, write_of, app_for, bits_for, command_named, kind_for, kind_of, number_for, number_of, number_word, order_by, order_for}
 use Rattle.revc_words.specs.inside.Parsing.{order_of_texts, parsed, takes_any, takes_count, takes_factor, texts_by, texts_in, value_or, values_of}
 use Rattle.revc_words.specs.inside.Parsing.{takes_kind, with_factor}
-use Rattle.revc_words.proofs.ValueLemmas.{Rule, plan_rule, lines_rule, gates_rule, borrow_rule, nodes_rule, start_rule, way_rule, format_rule, by_rule}
+use Rattle.revc_words.proofs.ValueLemmas.{Rule, plan_rule, lines_rule, gates_rule, borrow_rule, nodes_rule, placing_rule, way_rule, format_rule, by_rule}
 use Rattle.revc_words.proofs.ValueLemmas.{aim_rule, write_rule, number_says, number_found, kind_named, kind_says, right, kept, text_is_no_option}
 use Rattle.revc_words.proofs.WalkLemmas.{by_test, is_one_of, filled_app, run, clap_says, AreTexts}
 use Rattle.revc_words.proofs.SaidLemmas.{Said, said, read, reached, parsed as ends, Fits, AreNew, AreOnce, AreValues, IsNever}
@@ -340,7 +340,7 @@ record GiveAll (texts : Texts) (v : Values) : Type 0 where
   gates : Gives gates_rule texts.gates v.gates
   borrow : Gives borrow_rule texts.borrow v.borrow
   nodes : Gives nodes_rule texts.nodes v.nodes
-  outputs : Gives start_rule texts.outputs v.outputs
+  outputs : Gives placing_rule texts.outputs v.outputs
   way : Gives way_rule texts.way v.way
   format : Gives (format_rule Real) texts.format v.format
   from : Gives (format_rule Real) texts.from v.from
@@ -479,7 +479,7 @@ order_is words behind command what order named found once e =
       gates = right gates_rule (value_of (codes "gates") what.given) values.gates all.gates;
       borrow = right borrow_rule (value_of (codes "borrow") what.given) values.borrow all.borrow;
       nodes = right nodes_rule (value_of (codes "nodes") what.given) values.nodes all.nodes;
-      outputs = right start_rule (value_of (codes "outputs") what.given) values.outputs all.outputs;
+      outputs = right placing_rule (value_of (codes "outputs") what.given) values.outputs all.outputs;
       way = right way_rule (value_of (way_option command) what.given) values.way all.way;
       format = right (format_rule Real) (value_of (codes "format") what.given) values.format all.format;
       from = right (format_rule Real) (value_of (codes "from") what.given) values.from all.from;
@@ -521,7 +521,7 @@ said_so words order is =
       kept gates_rule (value_of (codes "gates") is.given) order.gates is.gates,
       kept borrow_rule (value_of (codes "borrow") is.given) order.borrow is.borrow,
       kept nodes_rule (value_of (codes "nodes") is.given) order.nodes is.nodes,
-      kept start_rule (value_of (codes "outputs") is.given) order.outputs is.outputs,
+      kept placing_rule (value_of (codes "outputs") is.given) order.outputs is.outputs,
       kept way_rule (value_of (way_option order.command) is.given) order.way is.way,
       kept (format_rule Real) (value_of (codes "format") is.given) order.format is.format,
       kept (format_rule Real) (value_of (codes "from") is.given) order.from is.from,
@@ -627,7 +627,7 @@ safe words order is =
     nodes = record { each = λ word e. text_is_no_option nodes_rule (value_of (codes "nodes") is.given) order.nodes word is.nodes e }
 
     outputs : IsSafe is.given (codes "outputs")
-    outputs = record { each = λ word e. text_is_no_option start_rule (value_of (codes "outputs") is.given) order.outputs word is.outputs e }
+    outputs = record { each = λ word e. text_is_no_option placing_rule (value_of (codes "outputs") is.given) order.outputs word is.outputs e }
 
     format : IsSafe is.given (codes "format")
     format = record { each = λ word e. text_is_no_option (format_rule Real) (value_of (codes "format") is.given) order.format word is.format e }

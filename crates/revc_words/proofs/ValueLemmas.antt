@@ -19,14 +19,15 @@ use Rattle.revc_words.specs.declared.order.Aim.{Aim}
 use Rattle.revc_words.specs.declared.order.Aim.TheVariants as aims
 use Rattle.revc_words.specs.declared.order.Format.{Format}
 use Rattle.revc_words.specs.declared.order.Format.TheVariants.{Real, Qasm}
-use Rattle.circuit_plans.specs.declared.roles.Start.{Start}
+use Rattle.circuit_plans.specs.declared.roles.Placing.{Placing}
+use Rattle.circuit_plans.specs.declared.roles.Placing.TheVariants.{Added, InPlace}
 use Rattle.circuit_plans.specs.declared.roles.Start.TheVariants.{Any, Zero}
 use Rattle.revc_words.specs.declared.order.Way.{Way}
 use Rattle.revc_words.specs.declared.order.Way.TheVariants.{Both, Diagrams, Sums}
 use Rattle.revc_words.specs.declared.order.Write.{Write}
 use Rattle.revc_words.specs.declared.order.Write.TheVariants as writes
-use Rattle.revc_words.specs.Words.{IsNumberIn, plan_word, start_word, way_word, format_word, kind_word, aim_word, write_word, is_option}
-use Rattle.revc_words.specs.inside.Parsing.{first_with, is_number_in, number_of, plan_of, start_of, way_of, format_of, kind_of, aim_of, write_of, value_or}
+use Rattle.revc_words.specs.Words.{IsNumberIn, plan_word, placing_word, way_word, format_word, kind_word, aim_word, write_word, is_option}
+use Rattle.revc_words.specs.inside.Parsing.{first_with, is_number_in, number_of, plan_of, placing_of, way_of, format_of, kind_of, aim_of, write_of, value_or}
 
 digits : IsNumeralModel (λ ds. all_ascii_digits ds ≡ true) (digits_value 10)
 digits = numerals_by_value _ tells_all_ascii_digits
@@ -139,9 +140,10 @@ pub format_named : (format : Format) → format_of (format_word format) ≡ Some
 format_named Real = refl
 format_named Qasm = refl
 
-pub start_named : (start : Start) → start_of (start_word start) ≡ Some start
-start_named Any = refl
-start_named Zero = refl
+pub placing_named : (placing : Placing) → placing_of (placing_word placing) ≡ Some placing
+placing_named (Added Any) = refl
+placing_named (Added Zero) = refl
+placing_named InPlace = refl
 
 pub way_named : (way : Way) → way_of (way_word way) ≡ Some way
 way_named Diagrams = refl
@@ -202,18 +204,19 @@ pub format_is_no_option : (format : Format) → is_option (format_word format) �
 format_is_no_option Real = refl
 format_is_no_option Qasm = refl
 
-pub start_is_no_option : (start : Start) → is_option (start_word start) ≡ false
-start_is_no_option Any = refl
-start_is_no_option Zero = refl
+pub placing_is_no_option : (placing : Placing) → is_option (placing_word placing) ≡ false
+placing_is_no_option (Added Any) = refl
+placing_is_no_option (Added Zero) = refl
+placing_is_no_option InPlace = refl
 
-abbrev pub start_rule : Rule Start
-start_rule = record {
-  value = start_of;
-  Writes = λ word start. word ≡ start_word start;
-  usual = Zero;
-  says = first_says start_word (Any ∷ Zero ∷ []);
-  found = λ word start is. ap start_of is ∙ start_named start;
-  no_option = λ word start is. ap is_option is ∙ start_is_no_option start;
+abbrev pub placing_rule : Rule Placing
+placing_rule = record {
+  value = placing_of;
+  Writes = λ word placing. word ≡ placing_word placing;
+  usual = Added Zero;
+  says = first_says placing_word (Added Any ∷ InPlace ∷ Added Zero ∷ []);
+  found = λ word placing is. ap placing_of is ∙ placing_named placing;
+  no_option = λ word placing is. ap is_option is ∙ placing_is_no_option placing;
 }
 
 pub way_is_no_option : (way : Way) → is_option (way_word way) ≡ false

@@ -12,7 +12,8 @@ use Rattle.arith_templates.specs.declared.limits.TheConstants.{MOST_BITS, MOST_F
 use Rattle.circuit_plans.specs.declared.plan.TheConstants.{MOST_LINES, MOST_GATES, MOST_BORROWED}
 use Rattle.circuit_plans.specs.declared.choice.Plan.{Plan}
 use Rattle.circuit_plans.specs.declared.choice.Plan.TheVariants.{Auto, Compact, Eager, Lean, Pebble, Shallow}
-use Rattle.circuit_plans.specs.declared.roles.Start.{Start}
+use Rattle.circuit_plans.specs.declared.roles.Placing.{Placing}
+use Rattle.circuit_plans.specs.declared.roles.Placing.TheVariants.{Added, InPlace}
 use Rattle.circuit_plans.specs.declared.roles.Start.TheVariants.{Any, Zero}
 use Rattle.revc_words.specs.declared.limits.TheConstants.{MOST_DIGITS, MOST_NODES, USUAL_LINES, USUAL_GATES, USUAL_NODES}
 use Rattle.revc_words.specs.Commands.{factor_option, name_of, options_of, takes_of, way_option}
@@ -37,7 +38,7 @@ words_of words = map string_bytes words
 -- ---- orders
 
 -- a command, the plans that it tries, the most lines and gates of its circuit, how many lines it
--- borrows, the most nodes of its diagrams, what its output lines may hold at the start, the way by
+-- borrows, the most nodes of its diagrams, where it puts the outputs, the way by
 -- which a circuit is verified, the format of the circuit of a program, the formats that `convert`
 -- and `tidy` read and write, for what a circuit is tidied, what a program computes of numbers, the
 -- factor by which it multiplies, what is written of it, how many bits its numbers have, and words
@@ -49,7 +50,7 @@ pub record OrderView : Type 0 where
   pub gates : ℕ
   pub borrow : ℕ
   pub nodes : ℕ
-  pub outputs : Start
+  pub outputs : Placing
   pub way : Way
   pub format : Format
   pub from : Format
@@ -158,10 +159,11 @@ plan_word Lean = codes "lean"
 plan_word Pebble = codes "pebble"
 plan_word Shallow = codes "shallow"
 
--- the word for what output lines may hold at the start
-abbrev pub start_word : Start → List ℕ
-start_word Any = codes "any"
-start_word Zero = codes "zero"
+-- the word for where a circuit puts the outputs
+abbrev pub placing_word : Placing → List ℕ
+placing_word (Added Any) = codes "any"
+placing_word (Added Zero) = codes "zero"
+placing_word InPlace = codes "inputs"
 
 -- the word for a way by which a circuit is verified
 abbrev pub way_word : Way → List ℕ
@@ -225,9 +227,9 @@ AreBorrowed given borrow = IsCounted (codes "borrow") 0 MOST_BORROWED 0 given bo
 abbrev pub AreNodes : List Setting → ℕ → Type 0
 AreNodes given nodes = IsCounted (codes "nodes") 1 MOST_NODES USUAL_NODES given nodes
 
--- what the output lines may hold at the start: what is given, or zeros
-abbrev pub IsStart : List Setting → Start → Type 0
-IsStart given start = IsChosen (codes "outputs") start_word Zero given start
+-- where the outputs are: as is given, or added to output lines that hold zeros at the start
+abbrev pub IsPlacing : List Setting → Placing → Type 0
+IsPlacing given placing = IsChosen (codes "outputs") placing_word (Added Zero) given placing
 
 -- the format that is written: the one given, or `.real`
 abbrev pub IsFormat : List Setting → Format → Type 0
@@ -327,7 +329,7 @@ pub record IsOrder (words : List (List ℕ)) (order : OrderView) : Type 0 where
   pub gates : AreGates given order.gates
   pub borrow : AreBorrowed given order.borrow
   pub nodes : AreNodes given order.nodes
-  pub outputs : IsStart given order.outputs
+  pub outputs : IsPlacing given order.outputs
   pub way : IsWay order.command given order.way
   pub format : IsFormat given order.format
   pub from : IsFrom given order.from

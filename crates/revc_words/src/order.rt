@@ -4,7 +4,7 @@ ghost use Rattle.revc_words.specs.Words.{first_word, order_of};
 
 use crate::{Command, USUAL_GATES, USUAL_LINES, USUAL_NODES};
 use arith_templates::Kind;
-use circuit_plans::{Plan, Start};
+use circuit_plans::{Placing, Plan, Start};
 
 /// A format of circuit files.
 #[derive(Clone, Copy, PartialEq, Eq)]
@@ -61,8 +61,8 @@ pub struct Values {
     pub borrow: u32,
     /// The most inner nodes of the diagrams, 1 to 1,000,000.
     pub nodes: u32,
-    /// What the output lines of a circuit may hold at the start.
-    pub outputs: Start,
+    /// Where a circuit puts the outputs.
+    pub outputs: Placing,
     /// How a circuit is verified.
     pub way: Way,
     /// The format of the circuit of a program.
@@ -87,7 +87,7 @@ impl Values {
         gates: USUAL_GATES,
         borrow: 0,
         nodes: USUAL_NODES,
-        outputs: Start::Zero,
+        outputs: Placing::Added(Start::Zero),
         way: Way::Diagrams,
         format: Format::Real,
         from: Format::Real,

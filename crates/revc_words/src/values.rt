@@ -4,11 +4,11 @@ ghost use Rattle.clap.specs.Words.{first_of, found_of, rows_of};
 ghost use Rattle.revc_words.specs.Commands.{factor_option, way_option};
 ghost use Rattle.revc_words.specs.inside.Parsing.{kind_of, number_of, text_at};
 ghost use Rattle.revc_words.specs.inside.Parsing.{texts_in, value_or, values_of, plan_of};
-ghost use Rattle.revc_words.specs.inside.Parsing.{aim_of, format_of, start_of, way_of, write_of};
+ghost use Rattle.revc_words.specs.inside.Parsing.{aim_of, format_of, placing_of, way_of, write_of};
 
 use crate::{Aim, Command, Format, MOST_DIGITS, MOST_NODES, Values, Way, Write};
 use arith_templates::{Kind, MOST_FACTOR};
-use circuit_plans::{MOST_BORROWED, MOST_GATES, MOST_LINES, Plan, Start};
+use circuit_plans::{MOST_BORROWED, MOST_GATES, MOST_LINES, Placing, Plan, Start};
 use clap::ArgMatches;
 
 /// The values of the texts that are given to a command: what has no text has its usual value.
@@ -116,13 +116,14 @@ impl Choice for Plan {
     }
 }
 
-impl Choice for Start {
-    ghost choice = { start_of };
+impl Choice for Placing {
+    ghost choice = { placing_of };
 
-    fn named(name: &str) -> Option<Start> {
+    fn named(name: &str) -> Option<Placing> {
         match name {
-            "any" => Some(Start::Any),
-            "zero" => Some(Start::Zero),
+            "any" => Some(Placing::Added(Start::Any)),
+            "inputs" => Some(Placing::InPlace),
+            "zero" => Some(Placing::Added(Start::Zero)),
             _ => None,
         }
     }

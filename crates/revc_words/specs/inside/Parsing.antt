@@ -13,7 +13,8 @@ use Rattle.arith_templates.specs.declared.limits.TheConstants.{MOST_BITS, MOST_F
 use Rattle.circuit_plans.specs.declared.plan.TheConstants.{MOST_LINES, MOST_GATES, MOST_BORROWED}
 use Rattle.circuit_plans.specs.declared.choice.Plan.{Plan}
 use Rattle.circuit_plans.specs.declared.choice.Plan.TheVariants.{Auto, Compact, Eager, Lean, Pebble, Shallow}
-use Rattle.circuit_plans.specs.declared.roles.Start.{Start}
+use Rattle.circuit_plans.specs.declared.roles.Placing.{Placing}
+use Rattle.circuit_plans.specs.declared.roles.Placing.TheVariants.{Added, InPlace}
 use Rattle.circuit_plans.specs.declared.roles.Start.TheVariants.{Any, Zero}
 use Rattle.revc_words.specs.declared.limits.TheConstants.{MOST_DIGITS, MOST_NODES, USUAL_LINES, USUAL_GATES, USUAL_NODES}
 use Rattle.revc_words.specs.Commands.{factor_option, name_of, options_of, takes_of, way_option}
@@ -30,7 +31,7 @@ use Rattle.revc_words.specs.declared.order.Way.TheVariants.{Both, Diagrams, Sums
 use Rattle.revc_words.specs.declared.order.Write.{Write}
 use Rattle.revc_words.specs.declared.order.Write.TheVariants as writes
 use Rattle.revc_words.specs.declared.order.Values.{Values}
-use Rattle.revc_words.specs.Words.{OrderView, order_with, plan_word, start_word, way_word, format_word, aim_word, write_word, kind_word, first_word}
+use Rattle.revc_words.specs.Words.{OrderView, order_with, plan_word, placing_word, way_word, format_word, aim_word, write_word, kind_word, first_word}
 
 -- ---- the command
 
@@ -128,8 +129,8 @@ abbrev pub plan_of : List ℕ → Option Plan
 plan_of word =
     first_with plan_word (Auto ∷ Compact ∷ Eager ∷ Lean ∷ Pebble ∷ Shallow ∷ []) word
 
-abbrev pub start_of : List ℕ → Option Start
-start_of word = first_with start_word (Any ∷ Zero ∷ []) word
+abbrev pub placing_of : List ℕ → Option Placing
+placing_of word = first_with placing_word (Added Any ∷ InPlace ∷ Added Zero ∷ []) word
 
 abbrev pub way_of : List ℕ → Option Way
 way_of word = first_with way_word (Diagrams ∷ Sums ∷ Both ∷ []) word
@@ -228,7 +229,7 @@ values_of texts =
     (value_or Real format_of texts.from))
     (value_or Real format_of texts.format))
     (value_or Diagrams way_of texts.way))
-    (value_or Zero start_of texts.outputs))
+    (value_or (Added Zero) placing_of texts.outputs))
     (value_or USUAL_NODES (number_of 1 MOST_NODES) texts.nodes))
     (value_or 0 (number_of 0 MOST_BORROWED) texts.borrow))
     (value_or USUAL_GATES (number_of 1 MOST_GATES) texts.gates))
