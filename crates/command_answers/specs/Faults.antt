@@ -8,7 +8,7 @@ use Rattle.revs_terms.specs.Causes.{cause_word}
 use Rattle.command_answers.specs.Lines.{digits_of}
 use Rattle.command_answers.specs.declared.fault.Fault.{Fault}
 use Rattle.command_answers.specs.declared.fault.Fault.TheVariants.{Usage, Refused, Claim, Diagram, CircuitDiagram, Lines, Gates, Circuit}
-use Rattle.command_answers.specs.declared.fault.Fault.TheVariants.{BadBits, FewLines, WideGate, Differs, Unsettled, NoPart, Read, Write, Memory}
+use Rattle.command_answers.specs.declared.fault.Fault.TheVariants.{BadBits, FewOutputs, FewLines, WideGate, Differs, Unsettled, NoPart, Read, Write, Memory}
 use Rattle.command_answers.specs.declared.fault.CircuitRefusal.{CircuitRefusal}
 use Rattle.command_answers.specs.declared.fault.CircuitRefusal.TheVariants as circuits
 use Rattle.command_answers.specs.declared.fault.FaultKind.{FaultKind}
@@ -35,6 +35,7 @@ status_of (WideGate number) = 14
 status_of (Differs line bits) = 15
 status_of NoPart = 16
 status_of Unsettled = 17
+status_of (FewOutputs inputs outputs) = 18
 
 abbrev pub kind_text : FaultKind → List ℕ
 kind_text BadByte = codes "BadByte"
@@ -101,6 +102,12 @@ bits_line word = codes "revc: bad bits in word " ++ (decimal word ++ codes "\n")
 abbrev pub circuit_diagram_line : ℕ → List ℕ
 circuit_diagram_line limit = codes "revc: circuit passes " ++ (decimal limit ++ codes " nodes\n")
 
+-- the line of a program that has fewer outputs than inputs
+abbrev pub few_outputs_line : ℕ → ℕ → List ℕ
+few_outputs_line inputs outputs =
+    codes "revc: "
+    ++ (decimal inputs ++ (codes " inputs have only " ++ (decimal outputs ++ codes " outputs\n")))
+
 -- the line of a circuit that has too few lines
 abbrev pub few_lines_line : ℕ → ℕ → List ℕ
 few_lines_line lines need =
@@ -127,6 +134,7 @@ line_of (Lines need limit) = lines_line need limit
 line_of (Gates limit) = gates_line limit
 line_of (Circuit refusal) = circuit_line refusal
 line_of (BadBits word) = bits_line word
+line_of (FewOutputs inputs outputs) = few_outputs_line inputs outputs
 line_of (FewLines lines need) = few_lines_line lines need
 line_of (WideGate number) = wide_gate_line number
 line_of (Differs line bits) = differs_line line bits

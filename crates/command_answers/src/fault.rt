@@ -35,6 +35,9 @@ pub enum Fault {
     /// The word of bits with this number, counted from 1, does not fit.
     #[error("bad bits")]
     BadBits { word: usize },
+    /// The program has fewer outputs than inputs, whose place they are to take.
+    #[error("program lacks outputs")]
+    FewOutputs { inputs: u32, outputs: u32 },
     /// The circuit has so many lines, and needs more for a program and its borrowed lines.
     #[error("circuit lacks lines")]
     FewLines { lines: u32, need: u32 },
@@ -122,6 +125,7 @@ impl Fault {
             Fault::Differs { .. } => 15,
             Fault::NoPart => 16,
             Fault::Unsettled => 17,
+            Fault::FewOutputs { .. } => 18,
         }
     }
 }

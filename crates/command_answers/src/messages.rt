@@ -71,6 +71,16 @@ impl Piece for Line<'_> {
             Fault::BadBits { word } => {
                 (b"revc: bad bits in word ", Decimal(*word as u64), b"\n").put(buffer, out)
             }
+            Fault::FewOutputs { inputs, outputs } => (
+                b"revc: ",
+                Decimal(*inputs as u64),
+                (
+                    b" inputs have only ",
+                    Decimal(*outputs as u64),
+                    b" outputs\n",
+                ),
+            )
+                .put(buffer, out),
             Fault::FewLines { lines, need } => {
                 two_numbers(b"revc: circuit has ", *lines, b" lines, needs ", *need).put(
                     buffer, out,

@@ -12,6 +12,9 @@ returns-in-CircuitDiagram-clause-bytes g c = rw c.in-CircuitDiagram.is c.put-in-
 pub returns-in-Lines-clause-bytes : goal.returns-in-Lines-clause-bytes
 returns-in-Lines-clause-bytes g c = rw c.in-Lines.is (rw c.two_numbers.ensures at c.put-in-Lines.ensures.bytes)
 
+pub returns-in-FewOutputs-clause-bytes : goal.returns-in-FewOutputs-clause-bytes
+returns-in-FewOutputs-clause-bytes g c = rw c.in-FewOutputs.is c.put-in-FewOutputs.ensures.bytes
+
 pub returns-in-FewLines-clause-bytes : goal.returns-in-FewLines-clause-bytes
 returns-in-FewLines-clause-bytes g c = rw c.in-FewLines.is (rw c.two_numbers-in-FewLines.ensures at c.put-in-FewLines.ensures.bytes)
 
