@@ -10,7 +10,7 @@ from models.claims import variable_order
 from models.commands import READERS as CIRCUITS
 from models.commands import Answer, Unmodelled, answer_of, budget_of, circuit_of, flips_of, most_split, parts_of
 from models.commands import run_on_zeros
-from models.commands import split_of, start_of
+from models.commands import places_of, split_of
 from models.language import Program, Run, program_of
 from models.plans import LEAN_PLANS, THRIFTY_PLANS, Budget, Numbers
 from models.templates import inputs_of, wanted
@@ -134,19 +134,19 @@ def is_verdict(order: Order, source: bytes, answer: Answer) -> bool:
     on the printed word, at the printed line and at none before it, and on no word, of these, before it or at a line
     before."""
     run, circuit = parts_of(order, source)
-    start = start_of(order)
-    inputs, outputs = len(run.bits), len(run.outputs)
-    work, held = len(circuit.names) - inputs - outputs - start.borrow, outputs if start.is_any else 0
-    count = inputs + held + start.borrow
+    places, inputs = places_of(order), len(run.bits)
+    lines = places.output_lines(inputs, len(run.outputs))
+    work, held = len(circuit.names) - inputs - lines - places.borrow, lines if places.is_any else 0
+    count = inputs + held + places.borrow
     names = ["x%d" % number for number in range(inputs)]
-    places = [names.index(name) for name in variable_order(run.program)] + list(range(inputs, count))
+    order_of_bits = [names.index(name) for name in variable_order(run.program)] + list(range(inputs, count))
 
     def first_differing(word: List[int]) -> int:
         """The first line, counted from 1, that differs on a word, or one more than there are."""
-        before = word[inputs : inputs + held] or [0] * outputs
-        sums = [bit ^ output for bit, (output, _) in zip(before, Run(run.program, word[:inputs]).outputs)]
+        before = word[inputs : inputs + held] or [0] * lines
+        outputs = [bit for bit, _ in Run(run.program, word[:inputs]).outputs]
         behind = [0] * work + word[inputs + held :]
-        wanted = word[:inputs] + sums + behind
+        wanted = places.ports(word[:inputs], before, outputs) + behind
         pairs = zip(circuit.run(word[:inputs] + before + behind), wanted)
         return next((line for line, (bit, right) in enumerate(pairs, 1) if bit != right), len(wanted) + 1)
 
@@ -156,7 +156,7 @@ def is_verdict(order: Order, source: bytes, answer: Answer) -> bool:
     line, printed = int(answer.err.split()[5]), [int(bit) for bit in answer.err.split()[-1].decode()]
 
     def is_before(word: List[int]) -> bool:
-        return [word[place] for place in places] < [printed[place] for place in places]
+        return [word[place] for place in order_of_bits] < [printed[place] for place in order_of_bits]
 
     return first_differing(printed) == line and all(
         first_differing(word) > line - (not is_before(word)) for word in words)

@@ -16,7 +16,7 @@ VALUES = {  # of each option, the first three of which are taken
     "lines": ["4", "5", "16384", "16385", "0016384"] + NUMBERS,
     "gates": ["3", "4", "4000000", "4000001", "04000000"] + NUMBERS,
     "borrow": ["0", "1", "64", "65", "0000064"] + NUMBERS,
-    "outputs": ["zero", "any", "any", "Any", "any ", "all", "0", "", "=any", "zeros", "--", "-"],
+    "outputs": ["zero", "any", "inputs", "Inputs", "input", "Any", "any ", "all", "0", "", "=any", "zeros", "--", "-"],
     "by": ["3", "10", "9999", "10000", "0009999"] + NUMBERS,
     "write": ["program", "real", "qasm", "Program", "program "] + FORMATS,
     "for": ["gates", "depth", "order", "Depth", "order ", "", "=depth", "gate", "toffoli", "--", "-"],

@@ -1,6 +1,6 @@
 """Random cases of each command: its words, and the text that it reads."""
 from random import Random
-from typing import List, NamedTuple
+from typing import List, NamedTuple, Sequence
 
 from cases.command_words import Orders
 from cases.foreign_circuits import ForeignCircuits, Lines, flip
@@ -197,6 +197,8 @@ class Verify:
 
     def case(self) -> Case:
         is_real, borrow = self.random.random() < 0.6, self.random.choice([0, 0, 0, 1, 2, 3])
+        if self.random.random() < 0.15:
+            return self.in_place(borrow, is_real)
         text, inputs = self.programs.case(self.kinds)
         while inputs > self.most_inputs:
             text, inputs = self.programs.case(self.kinds)
@@ -204,6 +206,23 @@ class Verify:
         if self.random.random() < 0.03:
             source = source[: self.random.randint(0, len(source))]
         words = self.words(borrow, is_real)
+        return Case(words + self.nodes(words, source), source)
+
+    def in_place(self, borrow: int, is_real: bool) -> Case:
+        """A program that says what each flip of a circuit does, and that circuit, some of whose lines begin at 0."""
+        inputs, more = self.random.randint(1, 4), self.random.choice([0, 0, 1, 2])
+        names, lets = ["x.[%d]" % number for number in range(inputs)] + ["false"] * more, ""
+        drawn = [self.random.sample(range(inputs + more), min(inputs + more, self.random.choice([1, 2, 3, 3])))
+                 for _ in range(self.random.randint(1, 8))]
+        for number, (target, *controls) in enumerate(drawn):
+            product = " && ".join(names[line] for line in controls) or "true"
+            lets += "let g%d = %s <> (%s); " % (number, names[target], product)
+            names[target] = "g%d" % number
+        text = "main (x : bool[%d]) = { %sreg [%s] }\n---\n" % (inputs, lets, "; ".join(names))
+        lines = Lines(inputs + more + borrow, borrow, [flip(controls, target) for target, *controls in drawn])
+        edited = lines if self.random.random() < 0.3 else self.circuits.edited(lines, is_real)
+        source = text.encode() + self.circuits.file(edited, is_real)
+        words = self.words(borrow, is_real, ["inputs"] * 9 + ["any"])
         return Case(words + self.nodes(words, source), source)
 
     def file(self, text: bytes, borrow: int, is_real: bool) -> bytes:
@@ -220,7 +239,7 @@ class Verify:
         lines = Lines(len(circuit.names), borrow, circuit.gates)
         return self.circuits.file(self.circuits.edited(lines, is_real), is_real)
 
-    def words(self, borrow: int, is_real: bool) -> List[str]:
+    def words(self, borrow: int, is_real: bool, places: Sequence[str] = ("", "", "", "any", "zero", "inputs")) -> List[str]:
         if self.random.random() < 0.02:
             is_real = not is_real
         if self.random.random() < 0.08:
@@ -228,7 +247,8 @@ class Verify:
         options = [["--from", "real"]] if is_real and self.random.random() < 0.1 else []
         options += [] if is_real else [self.random.choice([["--from=qasm"], ["--from", "qasm"]])]
         options += [["--borrow", str(borrow)]] if borrow or self.random.random() < 0.1 else []
-        options += [["--outputs", self.random.choice(["any", "any", "any", "zero"])]] if self.random.random() < 0.4 else []
+        place = self.random.choice(places)
+        options += [["--outputs", place]] if place else []
         ways = ["sums", "sums", "both", "diagrams"]
         options += [["--by", self.random.choice(ways)]] if self.random.random() < 0.4 else []
         self.random.shuffle(options)

@@ -523,6 +523,15 @@ TWICE = BITS + "reg [a && b; a && b]\n---\n"
 COPIED = on_lines("a b y z", "t3 a b y", "t2 y z")
 READ = on_lines("a b y w", "t3 a b y", "t3 a y w", "t3 a b w")
 IN_QASM = HEAD + "qreg q[4];\nccx q[0],q[1],q[2];\n"
+ONE_MORE = "main (x : bool[3]) = reg [true <> x.[0]; x.[0] <> x.[1]; x.[2] <> (x.[0] && x.[1])]\n---\n"
+ONE_MORE_GATES = ["t3 a b c", "t2 a b", "t1 a"]
+SWAPPED = "main (x : bool[2]) = reg [x.[1]; x.[0]]\n---\n"
+SWAPS = ["t2 a b", "t2 b a", "t2 a b"]
+ADDED = ("main (a : bool[2]) (b : bool[2]) = { let c = a.[0] && b.[0]; let x = a.[1] <> b.[1]; append a reg [a.[0] <> b.[0]; "
+         "x <> c; (a.[1] && b.[1]) <> (c && x)] }\n---\n")
+ONE_OF_TWO = "main (x : bool[2]) = reg [true <> x.[0]; x.[0] <> x.[1]]\n---\n" + on_lines("a b", "t2 a b", "t1 a")
+CUCCARO = ["t2 a0 b0", "t2 a0 c", "t3 c b0 a0", "t2 a1 b1", "t2 a1 a0", "t3 a0 b1 a1", "t2 a1 z",
+           "t3 a0 b1 a1", "t2 a1 a0", "t2 a0 b1", "t3 c b0 a0", "t2 a0 c", "t2 c b0"]
 
 VERIFIED = [
     ("verify", PARTED + FILE, "verified"),
@@ -574,6 +583,31 @@ VERIFIED = [
     # Seven functions: a, b, a && b, the bit c of the output line, !c, and c with b and with a && b added
     ("verify --outputs any --nodes 7", PARTED + FILE, "verified"),
     ("verify --outputs any --nodes 6", PARTED + FILE, "revc: circuit passes 6 nodes"),
+    # Outputs in place of the inputs, and those beyond their number on output lines
+    ("verify --outputs inputs", ONE_MORE + on_lines("a b c", *ONE_MORE_GATES), "verified"),
+    ("verify --outputs inputs --by sums", ONE_MORE + on_lines("a b c w", *ONE_MORE_GATES), "verified"),
+    ("verify --outputs inputs", ONE_MORE + on_lines("a b c", *ONE_MORE_GATES[:2]), "revc: circuit differs at line 1 on 000"),
+    ("verify --outputs inputs", ONE_MORE + on_lines("a b c", *ONE_MORE_GATES[1:]), "revc: circuit differs at line 3 on 110"),
+    ("verify --outputs inputs", SWAPPED + on_lines("a b", *SWAPS), "verified"),
+    ("verify --outputs=inputs --by=both", SWAPPED + on_lines("a b", *SWAPS[1:]), "revc: circuit differs at line 1 on 10"),
+    ("verify --outputs inputs", SWAPPED + on_lines("a b w", "t3 a b w", *SWAPS), "revc: circuit differs at line 3 on 11"),
+    ("verify --outputs inputs --by sums", SWAPPED + on_lines("a b w", "t3 a b w", *SWAPS),
+     "revc: circuit is not settled by sums"),
+    ("verify --outputs inputs --borrow 1", SWAPPED + on_lines("a b l", *SWAPS), "verified"),
+    ("verify --outputs inputs --borrow 1", SWAPPED + on_lines("a b l", "t2 l a", *SWAPS), "revc: circuit differs at line 2 on 001"),
+    ("verify --outputs inputs --borrow 1", SWAPPED + on_lines("a b", *SWAPS), "revc: circuit has 2 lines, needs 3"),
+    ("verify --outputs inputs", SWAPPED + on_lines("a b c", "f2 a b"), "revc: gate 1 is not X, CX or CCX"),
+    ("verify --outputs inputs", ADDED + on_lines("a0 a1 b0 b1 z c", *CUCCARO), "verified"),
+    ("verify --outputs inputs --by sums", ADDED + on_lines("a0 a1 b0 b1 z c", *CUCCARO), "verified"),
+    ("verify --outputs inputs", ADDED + on_lines("a0 a1 b0 b1 z c", *CUCCARO[:-2]), "revc: circuit differs at line 6 on 1000"),
+    ("verify --outputs inputs", ADDED + on_lines("a0 a1 b0 b1"), "revc: circuit has 4 lines, needs 5"),
+    ("verify", ADDED + on_lines("a0 a1 b0 b1 z c", *CUCCARO), "revc: circuit has 6 lines, needs 9"),
+    ("verify --outputs inputs", PARTED + TWO_LINES, "revc: 2 inputs have only 1 outputs"),
+    ("verify --outputs inputs --borrow 64", PARTED + FULL, "revc: 2 inputs have only 1 outputs"),
+    ("verify --outputs inputs", BITS + UNCLEANED + "\n---\n" + LEAST, "revc: claim 1 at 1:48 fails on 11"),
+    # Five functions: a, b, !a, a with b added, and !b, which it is where a is 1
+    ("verify --outputs inputs --nodes 5", ONE_OF_TWO, "verified"),
+    ("verify --outputs inputs --nodes 4", ONE_OF_TWO, "revc: circuit passes 4 nodes"),
 ]
 
 # ---- Adders

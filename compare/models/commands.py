@@ -9,7 +9,7 @@ from models.language import Run, program_of
 from models.plans import LEAN_PLANS, Budget, NoIdle, OverGates, OverLines, Plan, Settled, choose, flip, split, width_of
 from models.templates import template_text
 from models.tidied import Flip, tidied
-from models.verdicts import MOST_BYTES, Start, Verdict, first_wide, parted, verdict_on
+from models.verdicts import MOST_BYTES, Places, Verdict, first_wide, parted, verdict_on
 from models.words import Order, order_of
 
 
@@ -187,9 +187,9 @@ def parts_of(order: Order, source: bytes) -> Tuple[Run, real.Circuit]:
     return run_on_zeros(program), circuit_of(order, file)
 
 
-def start_of(order: Order) -> Start:
-    """What an order lets the lines of a circuit hold before the gates."""
-    return Start(order.values["outputs"] == "any", order.values["borrow"])
+def places_of(order: Order) -> Places:
+    """Where an order has the circuit put the outputs."""
+    return Places(order.values["outputs"], order.values["borrow"])
 
 
 def verdict_of(order: Order, source: bytes) -> Verdict:
@@ -197,12 +197,15 @@ def verdict_of(order: Order, source: bytes) -> Verdict:
     run, circuit = parts_of(order, source)
     settled_run(order, run)
     count, wide = len(circuit.names), first_wide(circuit)
-    need = len(run.bits) + len(run.outputs) + order.values["borrow"]
+    inputs, outputs, places = len(run.bits), len(run.outputs), places_of(order)
+    if places.is_in_place and outputs < inputs:
+        raise Fault(18, "%d inputs have only %d outputs" % (inputs, outputs))
+    need = inputs + places.output_lines(inputs, outputs) + places.borrow
     if count < need:
         raise Fault(13, "circuit has %d lines, needs %d" % (count, need))
     if wide is not None:
         raise Fault(14, "gate %d is not X, CX or CCX" % wide)
-    return verdict_on(run, circuit, start_of(order))
+    return verdict_on(run, circuit, places)
 
 
 def said(line: Optional[int], bits: str) -> bytes:

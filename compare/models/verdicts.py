@@ -91,11 +91,27 @@ def nodes_of(graph: Graph, tables: Tables, functions: Dict[str, int]) -> Dict[st
     return values
 
 
-class Start(NamedTuple):
-    """What lines may hold before the gates: whether those of the outputs hold any bits, and how many are borrowed."""
+class Places(NamedTuple):
+    """Where a circuit puts the outputs, by the word of `--outputs`, and how many lines are borrowed."""
 
-    is_any: bool
+    outputs: str
     borrow: int
+
+    @property
+    def is_any(self) -> bool:
+        return self.outputs == "any"
+
+    @property
+    def is_in_place(self) -> bool:
+        return self.outputs == "inputs"
+
+    def output_lines(self, inputs: int, outputs: int) -> int:
+        """How many output lines there are; in place the first outputs stand on the lines of the inputs."""
+        return outputs - inputs if self.is_in_place else outputs
+
+    def ports(self, inputs: List[int], held: List[int], outputs: List[int]) -> List[int]:
+        """What input lines and output lines should hold behind the gates, bits or functions."""
+        return outputs if self.is_in_place else inputs + [bit ^ output for bit, output in zip(held, outputs)]
 
 
 class Contents:
@@ -103,10 +119,11 @@ class Contents:
     output lines where these may hold any bits, and the borrowed lines; and all functions on the way. The circuit has as
     many lines as the run wants, or more."""
 
-    def __init__(self, run: Run, circuit: Circuit, start: Start, functions_of: Callable[[List[str]], Tables]):
+    def __init__(self, run: Run, circuit: Circuit, places: Places, functions_of: Callable[[List[str]], Tables]):
         inputs = ["x%d" % number for number in range(len(run.bits))]
-        held = ["y%d" % number for number in range(len(run.outputs) if start.is_any else 0)]
-        borrowed = ["b%d" % number for number in range(start.borrow)]
+        count = places.output_lines(len(inputs), len(run.outputs))
+        held = ["y%d" % number for number in range(count if places.is_any else 0)]
+        borrowed = ["b%d" % number for number in range(places.borrow)]
         self.names = inputs + held + borrowed
         self.functions = functions_of(variable_order(run.program) + held + borrowed)
         self.variables = dict(zip(self.functions.variables, self.functions.inputs))
@@ -114,11 +131,10 @@ class Contents:
         for number, write in enumerate(run.writes):
             self.writes["w%d" % number] = value_of(write, self.functions, self.writes)
         outputs, zero = [self.writes[name] for _, name in run.outputs], self.functions.false
-        work = [zero] * (len(circuit.names) - len(inputs) - len(outputs) - len(borrowed))
+        work = [zero] * (len(circuit.names) - len(inputs) - count - len(borrowed))
         kept, back = [self.variables[name] for name in inputs], [self.variables[name] for name in borrowed]
-        before = [self.variables[name] for name in held] or [zero] * len(outputs)
-        sums = [bit ^ output for bit, output in zip(before, outputs)]
-        self.wanted, self.contents = kept + sums + work + back, kept + before + work + back
+        before = [self.variables[name] for name in held] or [zero] * count
+        self.wanted, self.contents = places.ports(kept, before, outputs) + work + back, kept + before + work + back
         self.seen = set(self.contents + self.wanted)
         for controls, (target,) in circuit.gates:
             flips = self.functions.true
@@ -136,9 +152,9 @@ class Contents:
         return None, ""
 
 
-def verdict_on(run: Run, circuit: Circuit, start: Start) -> Verdict:
+def verdict_on(run: Run, circuit: Circuit, places: Places) -> Verdict:
     """The verdict on a circuit of narrow gates, which has as many lines as the run wants, or more."""
-    on = Contents(run, circuit, start, partial(Tables, most=MOST_VARIABLES))
+    on = Contents(run, circuit, places, partial(Tables, most=MOST_VARIABLES))
     nodes = nodes_of(Graph(run), on.functions, on.variables)
     most, least = (count_of(on.seen.union(each.values()), len(on.names)) for each in (on.writes, nodes))
     return Verdict(most, least, *on.difference())

@@ -51,7 +51,7 @@ AIMED = {"for": choice("gates", "depth", "order")}
 NUMBERED = {"gen", "bench"}
 BITS = number(0, 1, 200)
 KINDS = {"add", "sub", "less", "inc", "mul"}
-VERIFIED = {"outputs": choice("zero", "any"), "by": choice("diagrams", "sums", "both")}
+VERIFIED = {"outputs": choice("zero", "any", "inputs"), "by": choice("diagrams", "sums", "both")}
 ARITH = {"by": number(0, 1, 9_999), "write": choice("program", "real", "qasm")}
 
 # Of each command its options, and the least and most positional words
