@@ -17,7 +17,8 @@ ANSWERS = [  # messages that have no class of their own
     (r"bad bits in word (\d+)", "word {0} is no list of as many digits 0 and 1 as there are inputs"),
     (r"circuit has (\d+) lines, needs (\d+)",
      "with a line for each input and each output it has {1} at least: is it the circuit of another program? Where an output "
-     "stands in place of an input, say which line is which, lines={{..}} (--map)"),
+     "stands in place of an input, say which line is which, lines={{..}} (--map), or inplace=True where all do"),
+    (r"(\d+) inputs have only (\d+) outputs", "in place each input line ends with an output: put out the rest as they came"),
     (r"gate (\d+) is not X, CX or CCX", "`convert` makes X, CX and CCX gates of it; then verify that"),
     (r"(read|write) fault", "standard input or output failed: is the disk full, or was a pipe closed?"),
 ]
@@ -48,7 +49,7 @@ def meaning(refusal: Refused, source: Optional["RevsText"], words: Sequence[str]
     if source and isinstance(refusal, ClaimFails):
         return f"the claim does not hold on {source.assignment(refusal.inputs)}, the least input that breaks it"
     if source and isinstance(refusal, CircuitDiffers):
-        return difference(refusal, source)
+        return in_place(refusal, source) if "inputs" in words else difference(refusal, source)
     if isinstance(refusal, NodesExceeded):
         return claim_nodes(refusal) if refusal.number else circuit_nodes(refusal, words)
     if isinstance(refusal, GatesExceeded):
@@ -71,6 +72,13 @@ def difference(refusal: CircuitDiffers, source: "RevsText") -> str:
               "a work line has to end at 0, a borrowed one as it began: undo what was computed there")
     return (f"{source.role(line)} ends with the wrong bit on {source.assignment(refusal.inputs)}"
             + (f"\n{should}" if should else ""))
+
+
+def in_place(refusal: CircuitDiffers, source: "RevsText") -> str:
+    """The same where the outputs take the place of the inputs."""
+    place = (f"the place of the output {source.line_names()[source.inputs + refusal.line - 1]}"
+             if refusal.line <= source.outputs else "a work or borrowed line")
+    return f"line {refusal.line}, {place}, ends with the wrong bit on {source.assignment(refusal.inputs)}"
 
 
 def claim_nodes(refusal: NodesExceeded) -> str:

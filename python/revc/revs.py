@@ -127,10 +127,11 @@ class RevsText:
         return int(self.ask(["check", "--nodes", str(nodes)], deadline=Deadline(timeout)).split()[1])
 
     def verify(self, circuit: Union[Compiled, str], nodes: int = NODES, borrow: int = 0, by: str = WAY,
-               timeout: Optional[float] = None) -> str:
+               timeout: Optional[float] = None, inplace: bool = False) -> str:
         """Prove that a circuit from elsewhere, a `.real` or OpenQASM text, computes this on every input.
 
-        `by` is "both", sums of products and then diagrams of at most so many nodes, or one of "sums" and "diagrams".
+        `by` is "both", sums of products and then diagrams of at most so many nodes, or one of "sums" and "diagrams". With
+        `inplace` the outputs take the place of the inputs, and those beyond their number stand on the lines behind them.
         After `timeout` seconds it is given up, by `TimedOut`.
         """
         text, borrow = (circuit, borrow) if isinstance(circuit, str) else (circuit.real, circuit.borrowed)
@@ -139,6 +140,7 @@ class RevsText:
         within(nodes=nodes, borrow=borrow)
         words = ["verify", "--from", form_of(text), "--nodes", str(nodes), "--by", by]
         words += ["--borrow", str(borrow)] if borrow else []
+        words += ["--outputs", "inputs"] if inplace else []
         return self.ask(words, text, Deadline(timeout)).decode().strip()
 
 

@@ -13,7 +13,7 @@ from .program import Deadline
 from .progress import Told
 from .revs import Compiled, RevsText, within
 from .searches import PATIENCE, gates_that_fit, lines_that_fit
-from .verifying import asking, verify_netlist, verify_text
+from .verifying import asking, verify_in_turn, verify_netlist, verify_text
 
 
 class Source(RevsText):
@@ -45,19 +45,24 @@ class Source(RevsText):
             raise
 
     def verify(self, circuit: Union[Circuit, Netlist, Compiled, str], nodes: int = NODES, borrow: int = 0, by: str = WAY,
-               timeout: Optional[float] = None, lines: Optional[Lines] = None) -> str:
+               timeout: Optional[float] = None, lines: Optional[Lines] = None, inplace: bool = False) -> str:
         """Prove that a circuit computes this on every input: a compiled one, a `Netlist`, or the text of a file.
 
         `lines` say which lines of the circuit stand for a parameter or a result, as {"a": "q[0:4]", "out": "q[4]"}, where
         `out` is all results and `borrowed` lines that hold anything. Without it they are found by these names, or stand in
-        the order of `verify`. An output may stand on the line of an input.
+        the order of `verify`. An output may stand on the line of an input. With `inplace` all take the place of the inputs, in
+        order, and those beyond their number stand on the lines behind them.
         """
-        asks = asking(nodes, by, timeout)
+        asks = asking(nodes, by, timeout, inplace)
+        if inplace and lines is not None:
+            raise RevcError("inplace=True: the lines stand in order, so there is no map of them")
+        if inplace and isinstance(circuit, (str, Netlist)):
+            return verify_in_turn(self, circuit, borrow, asks)
         if isinstance(circuit, str):
             return verify_text(self, circuit, lines, borrow, asks)
         if isinstance(circuit, Netlist) or isinstance(circuit, Circuit) and lines is not None:
             return verify_netlist(self, circuit.netlist, lines, borrow, asks)
-        return super().verify(circuit, nodes, borrow, by, timeout)
+        return super().verify(circuit, nodes, borrow, by, timeout, inplace)
 
     def costs(self, plans: Optional[Sequence[str]] = None, points: int = 6, by: str = BY, progress: Told = None,
               timeout: Optional[float] = None) -> Costs:

@@ -1,7 +1,7 @@
 """Circuits of other tools against programs: their lines are brought into the order that `verify` wants."""
 import re
 from dataclasses import replace
-from typing import Callable, Dict, List, Optional, Sequence
+from typing import Callable, Dict, List, Optional, Sequence, Union
 
 from .defaults import NODES, WAY
 from .errors import CircuitDiffers, CircuitRefused, Refused, RevcError, more
@@ -19,10 +19,10 @@ REGISTER = re.compile(r"\bqreg\s+(\w+)\s*\[\s*(\d+)\s*\]\s*;")
 Asks = Callable[[RevsText, str, int], str]  # `verify` of a `.real` text, of which so many lines, the last, are borrowed
 
 
-def asking(nodes: int = NODES, by: str = WAY, timeout: Optional[float] = None) -> Asks:
+def asking(nodes: int = NODES, by: str = WAY, timeout: Optional[float] = None, inplace: bool = False) -> Asks:
     """`verify` with its options; the time is that of all calls."""
     deadline = Deadline(timeout)
-    return lambda program, text, borrowed: RevsText.verify(program, text, nodes, borrowed, by, deadline.left())
+    return lambda program, text, borrowed: RevsText.verify(program, text, nodes, borrowed, by, deadline.left(), inplace)
 
 
 def verify_text(program: RevsText, text: str, lines: Optional[Lines], borrow: int, asks: Asks, name: str = "circuit") -> str:
@@ -118,6 +118,16 @@ def said(program: RevsText, ready: Netlist, borrowed: int, asks: Asks) -> str:
 
 
 # ---- Outputs in place of inputs
+
+
+def verify_in_turn(program: RevsText, circuit: Union[str, Netlist], borrow: int, asks: Asks) -> str:
+    """Asks `verify`, in place, about a circuit whose lines are in order: inputs, further outputs, work and borrowed lines."""
+    netlist = read_text(circuit, "circuit") if isinstance(circuit, str) else circuit
+    inputs, outputs = (sum(width for _, width in each) for each in (program.params, program.out))
+    lines = list(range(netlist.lines))
+    last = max(netlist.lines - borrow, 0)
+    started = with_starts(netlist, lines[:inputs] + lines[last:], lines[max(inputs, outputs):last])
+    return said(program, started, borrow, asks)
 
 
 def verify_in_place(program: RevsText, netlist: Netlist, lines: LineMap, asks: Asks) -> str:

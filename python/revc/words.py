@@ -43,7 +43,7 @@ OPTIONS: Dict[str, Default] = {
     "format": Default("real", "real", FORMATS, "the format of the file that is written"),
     "from": Default("real", "real", FORMATS, "the format of the circuit that is read"),
     "to": Default("qasm", "qasm", FORMATS, "the format of the circuit that is written"),
-    "outputs": Default("zero", "zero", ("zero", "any"), "what the output lines hold at the start"),
+    "outputs": Default("zero", "zero", ("zero", "any", "inputs"), "where the outputs stand"),
     "write": Default("program", "program", ("program", *FORMATS), "what is written"),
 }
 OF_ARITH = {"by": Default(1, 1, (1, 9999), "the constant by which `mul` multiplies")}

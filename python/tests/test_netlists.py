@@ -148,6 +148,20 @@ class AgainstPrograms(unittest.TestCase):
                 adder.verify(ADDER + wrong, lines=lines)
             self.assertIn(f"the circuit calls that line `{line}`", str(refused.exception))
 
+    def test_all_in_place(self) -> None:
+        """x + 1 on the lines of x, from `.real`, OpenQASM 3 and a netlist, and wrong in one line."""
+        more = Source("main (x : bool[2]) = reg [true <> x.[0]; x.[0] <> x.[1]]")
+        text = ".numvars 2\n.variables x0 x1\n.begin\nt2 x0 x1\nt1 x0\n.end\n"
+        qasm = 'OPENQASM 3.0;\ninclude "stdgates.inc";\nqubit[2] x;\ncx x[0], x[1];\nx x[0];\n'
+        for circuit in (text, qasm, read_text(text)):
+            self.assertEqual(more.verify(circuit, inplace=True), "verified")
+        with self.assertRaises(CircuitDiffers) as refused:
+            more.verify(text.replace("t1 x0\n", ""), inplace=True)
+        self.assertIn("ends with the wrong bit on x=0", str(refused.exception))
+        with self.assertRaises(RevcError) as few:
+            Source("main (x : bool[2]) = x.[0]").verify(text, inplace=True)
+        self.assertIn("2 inputs have only 1 outputs", str(few.exception))
+
     def test_maps(self) -> None:
         for lines, says in MAPS:
             with self.assertRaises(RevcError) as refused:
