@@ -10,9 +10,10 @@ from . import program, refusals
 from .circuit_texts import FILES, ending_of
 from .errors import CircuitRefused, RevcError
 from .netlists import read_text
+from .network_files import is_network
 from .oracles import Oracle
 from .real import form_of
-from .sources import Source
+from .sources import Source, load
 
 PACKAGE = os.path.dirname(os.path.abspath(__file__)) + os.sep
 
@@ -32,6 +33,8 @@ def source_of(path: str) -> Source:
         return oracle_of(file, name)
     if file.endswith((*FILES, ".svg")):
         raise RevcError(f"{file} is a circuit, and a program is wanted: a .revs or .py file")
+    if is_network(file):
+        return load(file)
     text = text_of(file)
     if text.lstrip().startswith(("OPENQASM", ".version", ".numvars")):
         raise RevcError(f"{file} is a circuit, and a program is wanted: a .revs or .py file")

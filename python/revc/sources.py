@@ -9,6 +9,7 @@ from .defaults import GATES, LINES, NODES, PLAN, WAY
 from .errors import GatesExceeded, LinesExceeded, Refused, RevcError, more
 from .maps import Lines
 from .netlists import Netlist
+from .network_files import is_network, network_text
 from .program import Deadline
 from .progress import Told
 from .revs import Compiled, RevsText, within
@@ -85,9 +86,14 @@ class Source(RevsText):
         return best_circuit(self, by, most, plans, points, progress, timeout)
 
 
-def load(path: Union[str, Path]) -> Source:
-    """The program of Revs in a file."""
+def load(path: Union[str, Path], library: Union[str, Path, None] = None) -> Source:
+    """The program of Revs in a file, or that of a netlist: BLIF (`.blif`) or an and-inverter graph (`.aag`, `.aig`).
+
+    `library` is the file of the cells to which a netlist in BLIF is mapped, in the form `genlib`; yosys's own are known.
+    """
     try:
+        if is_network(path):
+            return Source(network_text(path, library), Path(path).stem)
         return Source(Path(path).read_text(), Path(path).stem)
     except (OSError, UnicodeDecodeError) as error:
         raise RevcError(f"{path} is no text of Revs: {error}") from None

@@ -13,7 +13,7 @@ from .defaults import DEFAULTS, Default
 
 FORMATS = ("real", "qasm")
 KINDS = ("add", "sub", "less", "inc", "mul")
-TEXTS = (".revs", ".real", ".qasm", ".txt", ".v", ".blif")  # endings of files
+TEXTS = (".revs", ".real", ".qasm", ".txt", ".v", ".blif", ".aag", ".aig")  # endings of files
 
 
 class Command(NamedTuple):

@@ -1,11 +1,10 @@
-"""Netlists of BLIF (Berkeley Logic Interchange Format, 1992), and the programs that compute the same.
-
-A netlist is combinational and flat: `.model`, `.inputs`, `.outputs`, `.names` and `.end`, as yosys and ABC write them.
-"""
+"""Networks of logic, as other tools give them, and the programs of Revs that compute the same."""
 import itertools
 import re
 from textwrap import fill
-from typing import Dict, Iterator, List, NamedTuple, Optional, Tuple
+from typing import Dict, List, NamedTuple, Optional, Tuple
+
+from .errors import RevcError
 
 WIDTH = 110
 MOST_BITS = 1_024  # inputs, and outputs
@@ -15,15 +14,6 @@ MOST_LINEAR = 8  # inputs of a node that is looked at on all their values
 GOOD_NAME = re.compile(r"[A-Za-z_][A-Za-z0-9_]{0,63}\Z")
 PLACE = re.compile(r"([A-Za-z_][A-Za-z0-9_]{0,63})\[([0-9]{1,4})\]\Z")
 WORDS = set("main let fun clean assert append rotate reg true false bool for in do revs".split())
-FLATTEN = "flatten it and map its cells to gates, as `synth -flatten` of yosys does; ABC flattens what it reads"
-ADVICE = {".latch": "a circuit here has no memory", ".subckt": FLATTEN, ".gate": FLATTEN, ".model": FLATTEN}
-
-
-class Refused(Exception):
-    """Why a netlist has no program."""
-
-
-# ---- Netlists
 
 
 class Node(NamedTuple):
@@ -34,106 +24,59 @@ class Node(NamedTuple):
     value: str
 
 
-class Netlist:
-    def __init__(self, text: str):
+def merged(node: Node) -> Node:
+    """The same node with each input once: rows in which an input has two bits are left out."""
+    names = list(dict.fromkeys(node.inputs))
+    rows = []
+    for row in node.rows:
+        bits = ["".join({bit for name, bit in zip(node.inputs, row) if name == each} - {"-"}) for each in names]
+        if all(len(bit) < 2 for bit in bits):
+            rows.append("".join(bit or "-" for bit in bits))
+    return Node(names, rows, node.value)
+
+
+class Network:
+    """A combinational network: a node for each name that is no input, in any order."""
+
+    def __init__(self) -> None:
         self.inputs: List[str] = []
         self.outputs: List[str] = []
         self.nodes: Dict[str, Node] = {}
         self.title = ""
-        names: List[str] = []  # of the last table
-        for number, words in lines_of(text):
-            if words[0] == ".names":
-                names = words[1:]
-                self.begin(number, names)
-            elif words[0].startswith("."):
-                if words[0] == ".end":
-                    return
-                names = []
-                self.head(number, words)
-            elif names:
-                self.row(number, names, words)
-            else:
-                raise Refused("line %d: a row that belongs to no table" % number)
-
-    def head(self, number: int, words: List[str]) -> None:
-        if words[0] == ".model" and not self.title:
-            self.title = "".join(" " + word for word in words[1:2])
-        elif words[0] == ".inputs":
-            self.inputs += words[1:]
-        elif words[0] == ".outputs":
-            self.outputs += words[1:]
-        else:
-            said = " ".join(words[:2])
-            raise Refused("line %d: no `%s` here: %s" % (number, said, ADVICE.get(words[0], "it is not known")))
-
-    def begin(self, number: int, names: List[str]) -> None:
-        if not names:
-            raise Refused("line %d: a table without a name" % number)
-        if names[-1] in self.nodes:
-            raise Refused("line %d: a second table of %s" % (number, names[-1]))
-        self.nodes[names[-1]] = Node(names[:-1], [], "1")
-
-    def row(self, number: int, names: List[str], words: List[str]) -> None:
-        node = self.nodes[names[-1]]
-        row, value = ([""] + words)[-2:]
-        fits = len(words) == min(len(names), 2) and len(row) == len(node.inputs)
-        if not fits or not set(row) <= set("01-") or value not in ("0", "1"):
-            raise Refused("line %d: not a row of %d inputs and their output" % (number, len(node.inputs)))
-        if node.rows and value != node.value:
-            raise Refused("line %d: rows of both outputs in one table" % number)
-        node.rows.append(row)
-        self.nodes[names[-1]] = node._replace(value=value)
 
 
-def lines_of(text: str) -> Iterator[Tuple[int, List[str]]]:
-    """The words of each line that has some, with the line's number; a backslash at its end joins the next line."""
-    words, begun = [], 0
-    for number, line in enumerate(text.splitlines(), 1):
-        line = line.partition("#")[0].rstrip()
-        words, begun = words + line.rstrip("\\").split(), begun or number
-        if not line.endswith("\\"):
-            if words:
-                yield begun, words
-            words, begun = [], 0
-    if words:
-        yield begun, words
+class NetworkProgram:
+    """The program of a network: a `let` for each node on which an output rests, behind those of its operands."""
 
-
-# ---- Programs
-
-
-class Program:
-    """The program of a netlist: a `let` for each node on which an output rests, behind those of its operands."""
-
-    def __init__(self, netlist: Netlist):
-        self.netlist = netlist
+    def __init__(self, network: Network):
+        self.network = network
         self.lets: List[str] = []
         self.terms: Dict[str, str] = {}  # how the program names what the netlist names
         self.negations: Dict[str, str] = {}
         self.fresh = ("n%d" % number for number in itertools.count(1))
-        self.taken = set(WORDS) | set(netlist.inputs) | set(netlist.outputs) | set(netlist.nodes)
+        self.taken = set(WORDS) | set(network.inputs) | set(network.outputs) | set(network.nodes)
         self.params = self.bind_inputs()
-        for output in netlist.outputs:
+        for output in network.outputs:
             self.define(output)
 
     def text(self) -> str:
-        netlist = self.netlist
-        check_limits("inputs", len(netlist.inputs), 1, MOST_BITS)
-        check_limits("outputs", len(netlist.outputs), 1, MOST_BITS)
-        outputs = [self.terms[output] for output in netlist.outputs]
+        network = self.network
+        check_limits("inputs", len(network.inputs), 1, MOST_BITS)
+        check_limits("outputs", len(network.outputs), 1, MOST_BITS)
+        outputs = [self.terms[output] for output in network.outputs]
         value = outputs[0] if len(outputs) == 1 else "reg [%s]" % "; ".join(outputs)
         body = "main %s = {\n%s  %s\n}\n" % (" ".join(self.params), "".join(self.lets), value)
         check_limits("writes", len(re.findall(r"&&|<>|\b(?:true|false)\b", body)), 0, MOST_WRITES)
-        title = "The netlist%s. Its outputs: %s." % (netlist.title, " ".join(netlist.outputs))
+        title = "The netlist%s. Its outputs: %s." % (network.title, " ".join(network.outputs))
         text = fill(title, WIDTH, initial_indent="// ", subsequent_indent="// ", break_on_hyphens=False) + "\n" + body
         check_limits("bytes of text", len(text.encode()), 0, MOST_BYTES)
         return text
 
     def bind_inputs(self) -> List[str]:
         """The parameters: a register for inputs `a[0]`, `a[1]`, .. side by side, else a bit for each input."""
-        inputs, params, at = self.netlist.inputs, [], 0
-        if len(set(inputs)) < len(inputs) or not set(inputs).isdisjoint(self.netlist.nodes):
-            raise Refused("an input that is named twice, or that has a table")
+        inputs, params, at = self.network.inputs, [], 0
+        if len(set(inputs)) < len(inputs) or not set(inputs).isdisjoint(self.network.nodes):
+            raise RevcError("an input that is named twice, or that has a table")
         while at < len(inputs):
             match, width = PLACE.match(inputs[at]), 0
             name = match[1] if match and match[1] not in self.taken else ""
@@ -166,20 +109,22 @@ class Program:
             signal = waiting[-1]
             if signal in self.terms:
                 waiting.pop()
-            elif signal not in self.netlist.nodes:
-                raise Refused("nothing drives %s" % signal)
+            elif signal not in self.network.nodes:
+                raise RevcError("nothing drives %s" % signal)
             elif signal in open_nodes:
                 waiting.pop()
                 self.put(signal)
             else:
                 open_nodes.add(signal)
-                operands = [name for name in self.netlist.nodes[signal].inputs if name not in self.terms]
+                operands = [name for name in self.network.nodes[signal].inputs if name not in self.terms]
                 if not open_nodes.isdisjoint(operands):
-                    raise Refused("%s rests on itself" % signal)
+                    raise RevcError("%s rests on itself" % signal)
                 waiting += reversed(operands)
 
     def put(self, signal: str) -> None:
-        node = self.netlist.nodes[signal]
+        node = self.network.nodes[signal]
+        if len(set(node.inputs)) < len(node.inputs):
+            node = merged(node)
         value = self.value(node)
         name = self.name(signal)
         self.lets.append("  let %s = %s;\n" % (name, value))
@@ -266,4 +211,4 @@ def linear_of(node: Node) -> Optional[Tuple[bool, List[str]]]:
 
 def check_limits(what: str, count: int, least: int, most: int) -> None:
     if not least <= count <= most:
-        raise Refused("%d %s, where the language takes %d to %d" % (count, what, least, most))
+        raise RevcError("%d %s, where the language takes %d to %d" % (count, what, least, most))
