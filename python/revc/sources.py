@@ -6,7 +6,8 @@ from . import program
 from .circuits import Circuit
 from .costs import BY, Costs, best_circuit
 from .defaults import GATES, LINES, NODES, PLAN, WAY
-from .errors import GatesExceeded, LinesExceeded, Refused, RevcError, more
+from .errors import CircuitDiffers, GatesExceeded, LinesExceeded, Refused, RevcError, more
+from .inplace import check_widths, in_place, not_inverse
 from .maps import Lines
 from .netlists import Netlist
 from .network_files import is_network, network_text
@@ -44,6 +45,24 @@ class Source(RevsText):
                     raise RevcError(f"no plan `{plan}`: {', '.join(program.plans())}") from None
                 within(lines=lines, gates=gates, borrow=borrow, nodes=nodes)
             raise
+
+    def compile_in_place(self, inverse: "Source", plan: str = PLAN, lines: int = LINES, gates: int = GATES, nodes: int = NODES,
+                         timeout: Optional[float] = None) -> Netlist:
+        """A circuit that ends with the outputs on the lines of the inputs, proved to do so on every input.
+
+        `inverse` takes the outputs to the inputs again. Outputs beyond the number of inputs stand on lines of their own, the
+        register `out`. `plan`, `lines` and `gates` are those of each of both circuits, of which it is made.
+        """
+        check_widths(self.name, self.inputs, self.outputs, inverse.inputs, inverse.outputs)
+        deadline = Deadline(timeout)
+        one = self.compile(plan, lines, gates, 0, nodes, deadline.left())
+        back = PLAN if plan == "compact" else plan  # whose outputs are added to the inputs
+        circuit = in_place(one, inverse.compile(back, lines, gates, 0, nodes, deadline.left()))
+        try:
+            self.verify(circuit, nodes, timeout=deadline.left(), inplace=True)
+        except CircuitDiffers as refusal:
+            raise not_inverse(self.name, refusal) from None
+        return circuit
 
     def verify(self, circuit: Union[Circuit, Netlist, Compiled, str], nodes: int = NODES, borrow: int = 0, by: str = WAY,
                timeout: Optional[float] = None, lines: Optional[Lines] = None, inplace: bool = False) -> str:

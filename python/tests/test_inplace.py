@@ -1,0 +1,106 @@
+"""Circuits in place: each input's lines end with the outputs, on every input, and a wrong inverse is refused."""
+import unittest
+from typing import Callable, Dict, List, Tuple
+
+from revc import Cat, Oracle, RevcError, U1, U4, WidthError, lib, oracle, table, widen
+from test_files import ran_by_gates
+
+PRESENT = [12, 5, 6, 11, 9, 0, 10, 13, 3, 14, 15, 8, 4, 7, 1, 2]
+
+
+@oracle
+def more(x: U4):
+    return x + 1
+
+
+@oracle
+def less(x: U4):
+    return x - 1
+
+
+@oracle
+def added(a: U4, b: U4):
+    return a, a + b
+
+
+@oracle
+def taken(a: U4, s: U4):
+    return a, s - a
+
+
+@oracle
+def tripled(x: U4):
+    return x + x + x
+
+
+@oracle
+def by_eleven(x: U4):  # 3 times 11 is 33, and 1 modulo 16
+    return (x << 3) + (x << 1) + x
+
+
+@oracle
+def present(x: U4):
+    return lib.present_sbox(x)
+
+
+@oracle
+def back(x: U4):
+    return table(x, [PRESENT.index(y) for y in range(16)])
+
+
+@oracle
+def with_carry(x: U4, c: U1):
+    total = widen(x, 5) + widen(c, 5)
+    return total[:4], c, total[4]
+
+
+@oracle
+def from_carry(s: U4, c: U1, carry: U1):
+    return (Cat(s, carry) - widen(c, 5))[:4], c
+
+
+# A function, its inverse, what it is on numbers, and the most Toffoli gates and lines.
+PAIRS: List[Tuple[Oracle, Oracle, Callable[..., int], int, int]] = [
+    (more, less, lambda x: (x + 1) % 16, 4, 11),
+    (added, taken, lambda a, b: a | (a + b) % 16 << 4, 12, 15),
+    (tripled, by_eleven, lambda x: 3 * x % 16, 12, 14),
+    (present, back, lambda x: PRESENT[x], 16, 16),
+    (with_carry, from_carry, lambda x, c: (x + c) % 16 | c << 4 | (x + c) // 16 << 5, 16, 18),
+]
+
+
+class InPlace(unittest.TestCase):
+    def test_pairs(self) -> None:
+        for function, inverse, wanted, toffoli, lines in PAIRS:
+            circuit = function.compile_in_place(inverse)
+            widths: Dict[str, int] = dict(function.params)
+            for bits in range(1 << function.inputs):
+                numbers, left = {}, bits
+                for name, width in widths.items():
+                    numbers[name], left = left % (1 << width), left >> width
+                self.assertEqual(ran_by_gates(circuit, bits), wanted(**numbers), (function.name, numbers))
+            self.assertLessEqual(circuit.cost.toffoli, toffoli, function.name)
+            self.assertLessEqual(circuit.lines, lines, function.name)
+
+    def test_no_inverse(self) -> None:
+        with self.assertRaisesRegex(RevcError, "`inverse` does not lead back from what `more` puts out"):
+            more.compile_in_place(more)
+        with self.assertRaisesRegex(WidthError, "takes its 5 output bits"):
+            with_parity().compile_in_place(less)
+
+        @oracle
+        def parity(x: U4):
+            return x.xor()
+        with self.assertRaisesRegex(WidthError, "`parity` has 4 inputs and only 1 outputs"):
+            parity.compile_in_place(less)
+
+
+def with_parity() -> Oracle:
+    @oracle
+    def wide(x: U4):
+        return Cat(x, x.xor())
+    return wide
+
+
+if __name__ == "__main__":
+    unittest.main()
