@@ -7,9 +7,11 @@ use Rattle.std.proofs.lemmas.List.{take_all, take_more}
 use Rattle.list_facts.specs.Bits.{bit_of, zeros}
 use Rattle.linear_forms.specs.Forms.{FormView, IsAtom, IsConstant, form_value}
 use Rattle.product_sums.specs.Products.{ProductsView}
-use Rattle.circuit_plans.specs.declared.roles.Start.{Start}
+use Rattle.circuit_plans.specs.declared.roles.Placing.{Placing}
+use Rattle.circuit_plans.specs.declared.roles.Placing.TheVariants.{Added, InPlace}
 use Rattle.circuit_plans.specs.declared.roles.Start.TheVariants.{Any, Zero}
-use Rattle.circuit_verify.specs.Comparisons.{Comparison, borrowed_bits, held_by, inputs_in, output_bits, output_variables, start_on, work_lines}
+use Rattle.circuit_verify.specs.Comparisons.{Comparison, borrowed_bits, held_by, inputs_in, output_bits, output_lines, output_variables, start_on}
+use Rattle.circuit_verify.specs.Comparisons.{work_lines}
 use Rattle.circuit_verify.specs.Verdicts.{HasEnoughLines}
 use Rattle.circuit_verify.proofs.AskLemmas.{borrowed_bit, input_bit, output_bit}
 use Rattle.circuit_verify.proofs.StepLemmas.{length-output_bits}
@@ -19,7 +21,7 @@ use Rattle.sum_verify.specs.inside.Forms.{AreFormsOf, AreStartForms, IsFormOf, I
 -- ---- atoms
 
 abbrev variables_of : Comparison → ℕ
-variables_of q = output_variables q.start q.program.outputs
+variables_of q = output_variables q.placing (output_lines q)
 
 -- an input line, and an output line that has a variable
 pub front_atom : (q : Comparison) (line : ℕ) → line < inputs_in q + variables_of q → IsStartAtom q line (Some line)
@@ -39,7 +41,7 @@ pub borrowed_atom : (q : Comparison) (line : ℕ) → HasEnoughLines q → q.cir
 borrowed_atom q line enough late low =
     let v : ℕ = variables_of q in
     let k : ℕ = line - (q.circuit.lines - q.borrow) in
-    let is : inputs_in q + (q.program.outputs + (work_lines q + k)) ≡ line = omega (arith, late, low, enough) in
+    let is : inputs_in q + (output_lines q + (work_lines q + k)) ≡ line = omega (arith, late, low, enough) in
     let atom : inputs_in q + (v + k) ≡ k + (inputs_in q + v) = omega arith in
     record {
       low = omega (arith, late, low, enough);
@@ -64,16 +66,21 @@ among_zeros held rest outputs work k size late low =
     ∙ get_or_append_left (zeros work) rest false (k - outputs) (omega (arith, late, low, length-replicate work false))
     ∙ get_or-replicate work (k - outputs) false false (omega (arith, late, low))
 
-idle_behind : (start : Start) (outputs work k : ℕ) (behind rest : List Bool) → length (held_by start outputs behind) ≡ outputs
-    → output_variables start outputs ≤ k → k < outputs + work → bit_of (held_by start outputs behind ++ (zeros work ++ rest)) k ≡ false
-idle_behind Any outputs work k behind rest size late low = among_zeros (take outputs behind) rest outputs work k size late low
-idle_behind Zero outputs work k behind rest size late low =
-    elim (cases_lt k outputs) as (λ _. bit_of (zeros outputs ++ (zeros work ++ rest)) k ≡ false) [
+zeros_behind : (lines work k : ℕ) (rest : List Bool) → k < lines + work → bit_of (zeros lines ++ (zeros work ++ rest)) k ≡ false
+zeros_behind lines work k rest low =
+    let size : length (zeros lines) ≡ lines = length-replicate lines false in
+    elim (cases_lt k lines) as (λ _. bit_of (zeros lines ++ (zeros work ++ rest)) k ≡ false) [
       | inl early ↦
-          get_or_append_left (zeros outputs) (zeros work ++ rest) false k (omega (arith, early, size))
-          ∙ get_or-replicate outputs k false false early
-      | inr behind ↦ among_zeros (zeros outputs) rest outputs work k size behind low
+          get_or_append_left (zeros lines) (zeros work ++ rest) false k (omega (arith, early, size))
+          ∙ get_or-replicate lines k false false early
+      | inr behind ↦ among_zeros (zeros lines) rest lines work k size behind low
     ]
+
+idle_behind : (placing : Placing) (lines work k : ℕ) (behind rest : List Bool) → length (held_by placing lines behind) ≡ lines
+    → output_variables placing lines ≤ k → k < lines + work → bit_of (held_by placing lines behind ++ (zeros work ++ rest)) k ≡ false
+idle_behind (Added Any) lines work k behind rest size late low = among_zeros (take lines behind) rest lines work k size late low
+idle_behind (Added Zero) lines work k behind rest size late low = zeros_behind lines work k rest low
+idle_behind InPlace lines work k behind rest size late low = zeros_behind lines work k rest low
 
 -- a line that holds 0
 pub no_atom : (q : Comparison) (line : ℕ) → HasEnoughLines q → inputs_in q + variables_of q ≤ line → line < q.circuit.lines - q.borrow
@@ -84,7 +91,7 @@ no_atom q line enough late low = record {
       let n : ℕ = inputs_in q in
       let front : length (take n bits) ≡ n = length-take-le n bits (omega (arith, size)) in
       get_or-append_right (take n bits) (output_bits q bits ++ (zeros (work_lines q) ++ borrowed_bits q bits)) n line false front (omega (arith, late))
-      ∙ idle_behind q.start q.program.outputs (work_lines q) (line - n) (drop n bits) (borrowed_bits q bits) (length-output_bits q bits size)
+      ∙ idle_behind q.placing (output_lines q) (work_lines q) (line - n) (drop n bits) (borrowed_bits q bits) (length-output_bits q bits size)
       (omega (arith, late)) (omega (arith, late, low, enough));
 }
 

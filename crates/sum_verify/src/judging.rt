@@ -5,18 +5,20 @@ ghost use Rattle.claim_check.specs.Settled.{settled_outputs};
 ghost use Rattle.mct_circuit.specs.Gates.{line_map};
 ghost use Rattle.circuit_verify.specs.Compared.{comparison};
 ghost use Rattle.circuit_verify.specs.Comparisons.{input_bits, start_on, wanted_on};
+ghost use Rattle.circuit_plans.specs.declared.roles.Placing.TheVariants.{InPlace};
 ghost use Rattle.circuit_verify.specs.Verdicts.{IsVerified};
+ghost use Rattle.circuit_verify.specs.inside.Numbers.{IsAdded};
 ghost use Rattle.sum_verify.specs.inside.Forms.{AreFormsOf, HasVariables, IsFormOf};
 
 use crate::fault::FormsFault;
 use crate::start::start_form;
+use circuit_plans::Placing;
 use circuit_verify::Compared;
 use cut_sweeping::Sweep;
 use linear_forms::Form;
 use std::alloc::Global;
 
-// The form that a line should have behind the gates: that of an output line is the output added to
-// what the line held.
+// The form that a line should have behind the gates.
 fn wanted_form(
     alloc: Global,
     products: &mut Sweep,
@@ -32,6 +34,30 @@ fn wanted_form(
     ensures wanted { IfOk result (λ form. IsFormOf (comparison compared.now) products.old form
         (λ bits. bit_of (wanted_on (comparison compared.now) bits) line)) }
 {
+    match compared.placing() {
+        Placing::Added(_) => added_form(alloc, products, compared, outputs, line),
+        Placing::InPlace => in_place_form(alloc, products, compared, outputs, line),
+    }
+}
+
+// The form that a line should have where outputs are added: that of an output line is the output
+// added to what the line held.
+fn added_form(
+    alloc: Global,
+    products: &mut Sweep,
+    compared: &Compared,
+    outputs: &[Form],
+    line: u32,
+) -> Result<Form, FormsFault>
+    requires placing { IsAdded compared.now.placing }
+    requires line { line < compared.now.circuit.lines }
+    requires outputs { AreFormsOf (comparison compared.now) products.old
+        (length compared.now.graph.outputs) outputs.now (λ bits. settled_outputs compared.now.graph
+        (input_bits (comparison compared.now) bits)) }
+    ensures same { products.new ≡ products.old }
+    ensures wanted { IfOk result (λ form. IsFormOf (comparison compared.now) products.old form
+        (λ bits. bit_of (wanted_on (comparison compared.now) bits) line)) }
+{
     let _ = compared.variables(); // shows what is known of both
     let start = start_form(alloc, compared, line)?;
     let inputs = compared.inputs();
@@ -39,6 +65,29 @@ fn wanted_form(
         return Ok(start);
     }
     Ok(products.sum(&start, &outputs[(line - inputs) as usize])?)
+}
+
+// The form that a line should have where the outputs take the place of the inputs.
+fn in_place_form(
+    alloc: Global,
+    products: &Sweep,
+    compared: &Compared,
+    outputs: &[Form],
+    line: u32,
+) -> Result<Form, FormsFault>
+    requires placing { compared.now.placing ≡ InPlace }
+    requires line { line < compared.now.circuit.lines }
+    requires outputs { AreFormsOf (comparison compared.now) products.now
+        (length compared.now.graph.outputs) outputs.now (λ bits. settled_outputs compared.now.graph
+        (input_bits (comparison compared.now) bits)) }
+    ensures { IfOk result (λ form. IsFormOf (comparison compared.now) products.now form
+        (λ bits. bit_of (wanted_on (comparison compared.now) bits) line)) }
+{
+    let _ = compared.variables(); // shows what is known of both
+    if line >= compared.outputs() {
+        return Ok(start_form(alloc, compared, line)?);
+    }
+    Ok(outputs[line as usize].copy()?)
 }
 
 // The circuit is verified, where each line has the form that it should have.

@@ -41,7 +41,8 @@ impl<'s> Unsettled<'s> {
 
 /// Verifies that a circuit computes the outputs of a settled graph: on every input, whatever the
 /// output lines hold that they may, with 0 on the work lines and whatever the borrowed lines hold,
-/// the outputs are added to the output lines, and every other line is left as it was.
+/// the outputs are added to the output lines, or take the place of the inputs, and every other line
+/// is left as it was.
 ///
 /// The lines are held as exclusive sums of inputs and of products, which `product_sums` numbers and
 /// bounds. A product of sums of products is not multiplied out, so a circuit that agrees may be

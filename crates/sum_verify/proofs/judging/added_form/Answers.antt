@@ -6,8 +6,8 @@ use Rattle.circuit_verify.specs.Compared.{comparison}
 use Rattle.circuit_verify.specs.Comparisons.{inputs_in}
 use Rattle.sum_verify.specs.inside.Forms.{form_at}
 use Rattle.sum_verify.proofs.JudgeLemmas.{wanted_as_start, wanted_as_sum}
-use Rattle.sum_verify.proofs.judging.wanted_form.Goals as goal
-use Rattle.sum_verify.proofs.judging.wanted_form.Goals.{then-line-inputs-via-else-line-inputs+then-line-inputs-2, then-line-inputs-via-then-line-inputs}
+use Rattle.sum_verify.proofs.judging.added_form.Goals as goal
+use Rattle.sum_verify.proofs.judging.added_form.Goals.{then-line-inputs-via-else-line-inputs+then-line-inputs-2, then-line-inputs-via-then-line-inputs}
 
 pub returns-then-line-inputs-clause-wanted : goal.returns-then-line-inputs-clause-wanted
 returns-then-line-inputs-clause-wanted c =
@@ -18,7 +18,7 @@ returns-then-line-inputs-clause-wanted c =
       | then-line-inputs-via-else-line-inputs+then-line-inputs-2 w ↦
           inr (omega (arith, w.if-line-inputs.false, w.if-line-inputs-2.true, w.outputs.ensures, c.inputs-inputs.ensures))
     ] in
-    wanted_as_start v c.args.products.now c.args.line c.in_ok-start.start place c.in_ok-start.ensures
+    wanted_as_start v c.variables.ensures.ready c.args.products.now c.args.line c.in_ok-start.start c.requires.placing place c.in_ok-start.ensures
 
 pub returns-clause-wanted : goal.returns-clause-wanted
 returns-clause-wanted c =
@@ -34,5 +34,5 @@ returns-clause-wanted c =
     get_or_read outputs (line - c.inputs-inputs.result) c.index-outputs-line.result (omega (arith, low, here, c.requires.outputs.one_each))
     c.index-outputs-line.is no_form
     ∙ ap (form_at outputs) here in
-    wanted_as_sum v c.args.products.now outputs line c.in_ok-start.start c.in_ok-sum.field-0 late low c.in_ok-start.ensures c.requires.outputs
+    wanted_as_sum v c.args.products.now outputs line c.in_ok-start.start c.in_ok-sum.field-0 c.requires.placing late low c.in_ok-start.ensures c.requires.outputs
     (subst (λ (g : FormView). IsSum c.in_ok-start.start g c.in_ok-sum.field-0) read c.in_ok-sum.ensures.sum)
