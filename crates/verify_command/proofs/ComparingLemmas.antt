@@ -1,5 +1,5 @@
 -- What the comparison of a settled graph with a circuit says of the tape and of the two texts.
-use Rattle.std.proofs.Common.{◌≡◌, inr, ℕ, ◌<◌, ◌≤◌, ◌^◌, List, ◌∷◌, Result}
+use Rattle.std.proofs.Common.{◌≡◌, inr, ℕ, ◌<◌, ◌≤◌, ◌^◌, Bool, List, ◌∷◌, Result}
 use Rattle.std.proofs.Common.{Ok, Err, length, sum, refl, sym, ap, ◌∙◌, subst, arith, length-append}
 use Rattle.std.specs.Prelude.{OnOk}
 use Rattle.std.specs.Result.{IfErr}
@@ -8,7 +8,7 @@ use Rattle.circuit_commands.specs.Circuits.{ReadCircuit, Means, line_count}
 use Rattle.circuit_commands.specs.Outcomes.{IsCircuitFault}
 use Rattle.circuit_commands.specs.declared.limits.TheConstants.{MOST_CIRCUIT_BYTES}
 use Rattle.circuit_verify.specs.Compared.{ComparedView, comparison}
-use Rattle.circuit_verify.specs.Comparisons.{Comparison, of_tape, roles_in}
+use Rattle.circuit_verify.specs.Comparisons.{Agrees, Comparison, beside, of_tape, roles_in}
 use Rattle.circuit_verify.specs.Verdicts.{IsFirstWide, IsNotComparable, IsVerified, IsVerifyFault}
 use Rattle.circuit_verify.specs.declared.fault.NotComparable.{NotComparable}
 use Rattle.circuit_verify.specs.declared.fault.NotComparable.TheVariants as reasons
@@ -21,8 +21,10 @@ use Rattle.command_answers.specs.declared.fault.Fault.{Fault}
 use Rattle.command_answers.specs.declared.fault.Fault.TheVariants as faults
 use Rattle.command_answers.specs.declared.fault.Refusal.TheVariants as refusals
 use Rattle.circuit_plans.specs.Plans.{lines_in}
+use Rattle.circuit_plans.specs.declared.roles.Placing.{Placing}
+use Rattle.circuit_plans.specs.declared.roles.Placing.TheVariants.{Added, InPlace}
 use Rattle.mct_circuit.specs.Gates.{AreGatesOn, CircuitView}
-use Rattle.program_texts.specs.Clean.{IsCleanCircuit}
+use Rattle.program_texts.specs.Clean.{ComputesOn, IsCleanCircuit}
 use Rattle.program_texts.specs.Outcomes.{IsSettlingFault, IsTextFault}
 use Rattle.program_texts.specs.Settling.{ForTexts, IsSettledWithin, LeavesSettled, LeavesTape}
 use Rattle.revc_words.specs.Words.{OrderView}
@@ -30,6 +32,8 @@ use Rattle.revc_words.specs.declared.order.Way.{Way}
 use Rattle.revc_words.specs.declared.order.Way.TheVariants as ways
 use Rattle.revs_parser.specs.declared.limits.TheConstants.{MOST_BYTES}
 use Rattle.revs_tape.specs.Tapes.{TapeView, bit_on, outputs_on}
+use Rattle.revs_terms.specs.Runs.{IsInput, IsTapeOf}
+use Rattle.revs_terms.specs.Views.{ProgramView}
 use Rattle.revs_terms.proofs.TapeLemmas.{tape_gives_output}
 use Rattle.sum_verify.specs.declared.fault.SumsFault.TheVariants as sums
 use Rattle.verify_command.specs.Parting.{IsParted}
@@ -52,13 +56,15 @@ named_gate circuit gate first =
     omega arith
 
 named : (q : Comparison) (why : NotComparable) → IsNotComparable q why → IsNamedIn q.circuit why
+named q (reasons.Outputs inputs outputs) is = tt
 named q (reasons.Lines need) is = tt
-named q (reasons.Gate gate) is = named_gate q.circuit gate is.1
+named q (reasons.Gate gate) is = named_gate q.circuit gate is.2
 
 not_comparing : (order : OrderView) (q : Comparison) (why : NotComparable) → IsNotComparable q why
     → IsComparingFault order (not_comparable_fault q.circuit why) q
-not_comparing order q (reasons.Lines need) is = (refl, is.0, is.1)
-not_comparing order q (reasons.Gate gate) is = record { enough = is.0; before = gate; first = is.1; count = refl }
+not_comparing order q (reasons.Outputs inputs outputs) is = is
+not_comparing order q (reasons.Lines need) is = (is.0, refl, is.1, is.2)
+not_comparing order q (reasons.Gate gate) is = record { outputs = is.0; enough = is.1; before = gate; first = is.2; count = refl }
 
 by_diagrams : (order : OrderView) (q : Comparison) (fault : VerifyFault) → HasDiagrams order.way → IsVerifyFault q order.nodes fault
     → IsComparingFault order (diagrams_fault fault) q
@@ -94,7 +100,7 @@ countable way v limit why few is = absurd is
 
 -- the two, as they are compared
 abbrev pub settled_beside : List ℕ → SettledView → CircuitView → OrderView → ComparedView
-settled_beside params s circuit order = record { graph = s; params = params; circuit = circuit; start = order.outputs; borrow = order.borrow }
+settled_beside params s circuit order = record { graph = s; params = params; circuit = circuit; placing = order.outputs; borrow = order.borrow }
 
 pub tape_verified : (t : TapeView) (s : SettledView) (params : List ℕ) (circuit : CircuitView) (order : OrderView) (v : ComparedView)
     → v ≡ settled_beside params s circuit order → params ≡ t.params → IsSettledOf t s → IsVerified (comparison v)
@@ -107,13 +113,16 @@ tape_verified t s params circuit order v made same is h =
 -- what stops the comparison with a settled graph stops that with its tape
 stops_tape : (t : TapeView) (s : SettledView) (circuit : CircuitView) (order : OrderView) (fault : Fault) → IsSettledOf t s
     → IsComparingFault order fault (comparison (settled_beside t.params s circuit order)) → IsComparingFault order fault (comparison_with order t circuit)
+stops_tape t s circuit order (faults.FewOutputs inputs outputs) is h =
+    (said_of_tapes t s is circuit order.outputs order.borrow order.nodes).not_comparable (reasons.Outputs inputs outputs) h
 stops_tape t s circuit order (faults.FewLines lines need) is h =
     let said = (said_of_tapes t s is circuit order.outputs order.borrow order.nodes).not_comparable (reasons.Lines need)
-    (subst (λ (n : ℕ). n < need) h.0 h.1, h.2) in
-    (h.0, h.1, said.1)
+    (h.0, subst (λ (n : ℕ). n < need) h.1 h.2, h.3) in
+    (said.0, h.1, h.2, said.2)
 stops_tape t s circuit order (faults.WideGate number) is h =
-    let said = (said_of_tapes t s is circuit order.outputs order.borrow order.nodes).not_comparable (reasons.Gate h.before) (h.enough, h.first) in
-    record { enough = said.0; before = h.before; first = said.1; count = h.count }
+    let said = (said_of_tapes t s is circuit order.outputs order.borrow order.nodes).not_comparable (reasons.Gate h.before)
+    (h.outputs, h.enough, h.first) in
+    record { outputs = said.0; enough = said.1; before = h.before; first = said.2; count = h.count }
 stops_tape t s circuit order (faults.CircuitDiagram limit) is h =
     let said = (said_of_tapes t s is circuit order.outputs order.borrow order.nodes).refused (verdicts.Diagram limit) (h.1, h.2, h.3) in
     (h.0, said.0, said.1, said.2)
@@ -149,6 +158,22 @@ tape_not_comparable t s params circuit order why same is h =
 
 -- ---- the comparison of two texts
 
+computes_on : (placing : Placing) (borrow : ℕ) (p : ProgramView) (tape : TapeView) (circuit : CircuitView) → IsTapeOf p.params p.body tape
+    → Agrees (beside (of_tape tape) circuit placing borrow) → (input bits : List Bool) → IsInput p.params input → length bits ≡ borrow
+    → ComputesOn p placing (roles_in (beside (of_tape tape) circuit placing borrow)) circuit.gates input bits
+computes_on (Added start) borrow p tape circuit of agrees input bits size many = record {
+  output = outputs_on tape input;
+  is = tape_gives_output p.params p.body tape of input size;
+  size = length-map tape.outputs (bit_on tape input);
+  adds = λ held wide may. agrees.adds input held bits (size ∙ ap sum (sym of.widths)) wide may many;
+}
+computes_on InPlace borrow p tape circuit of agrees input bits size many = record {
+  output = outputs_on tape input;
+  is = tape_gives_output p.params p.body tape of input size;
+  size = agrees.size input (size ∙ ap sum (sym of.widths));
+  replaces = agrees.replaces input bits (size ∙ ap sum (sym of.widths)) many;
+}
+
 clean_of : (order : OrderView) (program : List ℕ) (tape : TapeView) (read : ReadCircuit) (settled : LeavesSettled program order.nodes tape)
     → AreGatesOn (line_count read) read.gates → IsVerified (comparison_of order tape read)
     → IsCleanCircuit settled.left.program order.outputs order.borrow (roles_in (comparison_of order tape read)) read.gates
@@ -162,12 +187,8 @@ clean_of order program tape read settled on v =
       borrows = refl;
       placed = subst (λ n. AreGatesOn n read.gates) same on;
       narrow = v.comparable.narrow;
-      computes = λ input bits size many. record {
-        output = outputs_on tape input;
-        is = tape_gives_output p.params p.body tape of input size;
-        size = length-map tape.outputs (bit_on tape input);
-        adds = λ held wide may. v.agrees.adds input held bits (size ∙ ap sum (sym of.widths)) wide may many;
-      };
+      computes = computes_on order.outputs order.borrow p tape
+          (record { lines = line_count read; limit = length read.gates; gates = read.gates }) of v.agrees;
     }
 
 pub texts_verified : {T E : Type 0} (order : OrderView) (program text : List ℕ) (tape : TapeView) (graph : SettledView) (read : ReadCircuit)
@@ -222,6 +243,8 @@ claims_stop order program text tape read fault few left means h = settling_stops
 comparison_stops : (order : OrderView) (program text : List ℕ) (tape : TapeView) (read : ReadCircuit) (fault : Fault) → length program ≤ MOST_BYTES
     → LeavesSettled program order.nodes tape → Means order.from text read → IsComparingFault order fault (comparison_of order tape read)
     → IsPartsFault order program text fault
+comparison_stops order program text tape read (faults.FewOutputs inputs outputs) few settled means h =
+    record { tape = tape; settled = settled; read = read; means = means; holds = h }
 comparison_stops order program text tape read (faults.FewLines lines need) few settled means h =
     record { tape = tape; settled = settled; read = read; means = means; holds = h }
 comparison_stops order program text tape read (faults.WideGate number) few settled means h =

@@ -3,8 +3,8 @@ use Rattle.std.proofs.Common.{◌≡◌, ◌⊎◌, inl, inr, ℕ, ◌+◌, ◌<
 use Rattle.circuit_commands.specs.declared.limits.TheConstants.{MOST_CIRCUIT_BYTES}
 use Rattle.circuit_commands.specs.Circuits.{ReadCircuit, Means, IsCircuitRefusal}
 use Rattle.circuit_commands.proofs.CircuitLemmas.{means_or_refused, one_circuit, one_circuit_refusal}
-use Rattle.circuit_verify.specs.Comparisons.{Comparison, least_lines}
-use Rattle.circuit_verify.specs.Verdicts.{IsVerified}
+use Rattle.circuit_verify.specs.Comparisons.{Comparison, inputs_in, least_lines}
+use Rattle.circuit_verify.specs.Verdicts.{HasEnoughOutputs, HasFewOutputs, IsVerified}
 use Rattle.circuit_verify.proofs.LawLemmas.{comparisons_end_in_one_way}
 use Rattle.command_answers.specs.Outcomes.{HasOneOutcome, IsFaultOfText}
 use Rattle.command_answers.specs.declared.fault.CircuitRefusal.{CircuitRefusal}
@@ -56,12 +56,24 @@ one_difference q number other bits others a b =
     let one = (comparisons_end_in_one_way q).one_difference a.before b.before bits others a.first b.first in
     one_differs number other bits others (a.count ∙ ap (λ n. n + 1) one.0 ∙ sym b.count) one.1
 
-few_or_enough : (q : Comparison) (lines need : ℕ) → (lines ≡ q.circuit.lines) × (lines < need) × (need ≡ least_lines q) → least_lines q ≤ q.circuit.lines → ⊥
+abbrev StopsOutputs : Comparison → ℕ → ℕ → Type 0
+StopsOutputs q inputs outputs = HasFewOutputs q × (inputs ≡ inputs_in q) × (outputs ≡ q.program.outputs)
+
+abbrev StopsLines : Comparison → ℕ → ℕ → Type 0
+StopsLines q lines need = HasEnoughOutputs q × (lines ≡ q.circuit.lines) × (lines < need) × (need ≡ least_lines q)
+
+one_few_outputs : (inputs outputs others most : ℕ) → inputs ≡ others → outputs ≡ most → faults.FewOutputs inputs outputs ≡ faults.FewOutputs others most
+one_few_outputs inputs outputs others most i o = cc
+
+few_or_enough : (q : Comparison) (lines need : ℕ) → StopsLines q lines need → least_lines q ≤ q.circuit.lines → ⊥
 few_or_enough q lines need few enough =
-    let same = few.0 in
-    let less = few.1 in
-    let least = few.2 in
+    let same = few.1 in
+    let less = few.2 in
+    let least = few.3 in
     omega arith
+
+lacks_or_fills : (q : Comparison) (inputs outputs : ℕ) → StopsOutputs q inputs outputs → HasEnoughOutputs q → ⊥
+lacks_or_fills q inputs outputs few enough = (comparisons_end_in_one_way q).few_or_enough few.0 enough
 
 one_comparing : (order : OrderView) (q : Comparison) (fault exact : Fault) → StopsComparing order fault q → StopsComparing order exact q
     → LeavesNothingOpen exact → OneOf exact fault
@@ -69,8 +81,18 @@ one_comparing order q (faults.CircuitDiagram limit) exact a b is = inr tt
 one_comparing order q faults.Unsettled exact a b is = inr tt
 one_comparing order q fault (faults.CircuitDiagram limit) a b is = absurd is
 one_comparing order q fault faults.Unsettled a b is = absurd is
+one_comparing order q (faults.FewOutputs inputs outputs) (faults.FewOutputs others most) a b is =
+    inl (one_few_outputs others most inputs outputs (b.1 ∙ sym a.1) (b.2 ∙ sym a.2))
+one_comparing order q (faults.FewOutputs inputs outputs) (faults.FewLines lines need) a b is = absurd (lacks_or_fills q inputs outputs a b.0)
+one_comparing order q (faults.FewOutputs inputs outputs) (faults.WideGate number) a b is = absurd (lacks_or_fills q inputs outputs a b.outputs)
+one_comparing order q (faults.FewOutputs inputs outputs) (faults.Differs number bits) a b is =
+    absurd (lacks_or_fills q inputs outputs a b.1.comparable.outputs)
+one_comparing order q (faults.FewLines lines need) (faults.FewOutputs inputs outputs) a b is = absurd (lacks_or_fills q inputs outputs b a.0)
+one_comparing order q (faults.WideGate number) (faults.FewOutputs inputs outputs) a b is = absurd (lacks_or_fills q inputs outputs b a.outputs)
+one_comparing order q (faults.Differs number bits) (faults.FewOutputs inputs outputs) a b is =
+    absurd (lacks_or_fills q inputs outputs b a.1.comparable.outputs)
 one_comparing order q (faults.FewLines lines need) (faults.FewLines other most) a b is =
-    inl (one_few_lines other most lines need (b.0 ∙ sym a.0) (b.2 ∙ sym a.2))
+    inl (one_few_lines other most lines need (b.1 ∙ sym a.1) (b.3 ∙ sym a.3))
 one_comparing order q (faults.FewLines lines need) (faults.WideGate number) a b is = absurd (few_or_enough q lines need a b.enough)
 one_comparing order q (faults.FewLines lines need) (faults.Differs number bits) a b is = absurd (few_or_enough q lines need a b.1.comparable.lines)
 one_comparing order q (faults.WideGate number) (faults.FewLines lines need) a b is = absurd (few_or_enough q lines need b a.enough)
@@ -81,6 +103,7 @@ one_comparing order q (faults.Differs number bits) (faults.FewLines lines need) 
 one_comparing order q (faults.Differs number bits) (faults.WideGate other) a b is =
     absurd ((comparisons_end_in_one_way q).no_gate b.before a.1.comparable.narrow b.first)
 one_comparing order q (faults.Differs number bits) (faults.Differs other others) a b is = inl (one_difference q other number others bits b.1 a.1)
+one_comparing order q (faults.FewOutputs inputs outputs) exact a b is = absurd b
 one_comparing order q (faults.FewLines lines need) exact a b is = absurd b
 one_comparing order q (faults.WideGate number) exact a b is = absurd b
 one_comparing order q (faults.Differs line bits) exact a b is = absurd b
@@ -89,6 +112,7 @@ one_comparing order q fault exact a b is = absurd a
 verified_or_stopped : (order : OrderView) (q : Comparison) (fault : Fault) → IsVerified q → StopsComparing order fault q → LeavesNothingOpen fault → ⊥
 verified_or_stopped order q (faults.CircuitDiagram limit) v stops is = is
 verified_or_stopped order q faults.Unsettled v stops is = is
+verified_or_stopped order q (faults.FewOutputs inputs outputs) v stops is = lacks_or_fills q inputs outputs stops v.comparable.outputs
 verified_or_stopped order q (faults.FewLines lines need) v stops is = few_or_enough q lines need stops v.comparable.lines
 verified_or_stopped order q (faults.WideGate number) v stops is = (comparisons_end_in_one_way q).no_gate stops.before v.comparable.narrow stops.first
 verified_or_stopped order q (faults.Differs number bits) v stops is =
@@ -99,6 +123,8 @@ served_or_stopped : (order : OrderView) (q : Comparison) (fault : Fault) → Has
     → StopsComparing order fault q → ⊥
 served_or_stopped order q (faults.CircuitDiagram limit) way v stops = v.few stops.2
 served_or_stopped order q faults.Unsettled way v stops = subst HasDiagrams stops.0 way
+served_or_stopped order q (faults.FewOutputs inputs outputs) way v stops =
+    verified_or_stopped order q (faults.FewOutputs inputs outputs) v.verified stops tt
 served_or_stopped order q (faults.FewLines lines need) way v stops = verified_or_stopped order q (faults.FewLines lines need) v.verified stops tt
 served_or_stopped order q (faults.WideGate number) way v stops = verified_or_stopped order q (faults.WideGate number) v.verified stops tt
 served_or_stopped order q (faults.Differs number bits) way v stops = verified_or_stopped order q (faults.Differs number bits) v.verified stops tt
@@ -312,7 +338,7 @@ as_compared order source p =
     record { short = p.short; program = p.program; circuit = p.circuit; parted = p.parted; holds = p.holds.compared }
 
 among : (order : OrderView) (source : List ℕ) (fault : Fault) → IsCause order source fault
-    → IsFaultOfText (3 ∷ 4 ∷ 5 ∷ 8 ∷ 13 ∷ 14 ∷ 15 ∷ 16 ∷ 17 ∷ []) fault
+    → IsFaultOfText (3 ∷ 4 ∷ 5 ∷ 8 ∷ 13 ∷ 14 ∷ 15 ∷ 16 ∷ 17 ∷ 18 ∷ []) fault
 among order source (faults.Refused refusal) cause = record { of_text = tt; status = (0, omega arith, refl) }
 among order source (faults.Claim number at bits) cause = record { of_text = tt; status = (1, omega arith, refl) }
 among order source (faults.Diagram number at limit) cause = record { of_text = tt; status = (2, omega arith, refl) }
@@ -323,6 +349,7 @@ among order source (faults.WideGate number) cause = record { of_text = tt; statu
 among order source (faults.Differs number bits) cause = record { of_text = tt; status = (6, omega arith, refl) }
 among order source faults.NoPart cause = record { of_text = tt; status = (7, omega arith, refl) }
 among order source faults.Unsettled cause = record { of_text = tt; status = (8, omega arith, refl) }
+among order source (faults.FewOutputs inputs outputs) cause = record { of_text = tt; status = (9, omega arith, refl) }
 among order source fault cause = absurd cause.holds.holds
 
 pub one_outcome : HasOneOutcome promise

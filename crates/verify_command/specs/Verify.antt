@@ -3,14 +3,15 @@
 use Rattle.std.specs.Prelude.{◌≡◌, ◌⊎◌, ℕ, Bool, ◌+◌, ◌<◌, ◌≤◌, List, [], ◌∷◌, length, Some, codes}
 use Rattle.circuit_commands.specs.declared.limits.TheConstants.{MOST_CIRCUIT_BYTES}
 use Rattle.circuit_commands.specs.Circuits.{ReadCircuit, Means, IsCircuitRefusal, line_count}
-use Rattle.circuit_verify.specs.Comparisons.{Comparison, beside, least_lines, of_tape, roles_in}
+use Rattle.circuit_verify.specs.Comparisons.{Comparison, beside, inputs_in, least_lines, of_tape, roles_in}
 use Rattle.circuit_verify.specs.LineFunctions.{HasMore}
-use Rattle.circuit_verify.specs.Verdicts.{DiffersFirst, HasEnoughLines, IsComparable, IsFirstWide, IsVerified}
+use Rattle.circuit_verify.specs.Verdicts.{DiffersFirst, HasEnoughLines, HasEnoughOutputs, HasFewOutputs}
+use Rattle.circuit_verify.specs.Verdicts.{IsComparable, IsFirstWide, IsVerified}
 use Rattle.command_answers.specs.Outcomes.{Promise}
 use Rattle.command_answers.specs.declared.fault.CircuitRefusal.{CircuitRefusal}
 use Rattle.command_answers.specs.declared.fault.CircuitRefusal.TheVariants as circuits
 use Rattle.command_answers.specs.declared.fault.Fault.{Fault}
-use Rattle.command_answers.specs.declared.fault.Fault.TheVariants.{Refused, Claim, Diagram, CircuitDiagram, Circuit, FewLines, WideGate, Differs, Unsettled, NoPart}
+use Rattle.command_answers.specs.declared.fault.Fault.TheVariants.{Refused, Claim, Diagram, CircuitDiagram, Circuit, FewOutputs, FewLines, WideGate, Differs, Unsettled, NoPart}
 use Rattle.command_answers.specs.declared.fault.Refusal.TheVariants as refusals
 use Rattle.command_answers.specs.declared.limit.TextLimit.{TextLimit}
 use Rattle.program_texts.specs.Clean.{IsCleanCircuit}
@@ -38,8 +39,8 @@ pub record HasParts (source : List ℕ) (OfParts : List ℕ → List ℕ → Typ
   pub parted : IsParted source program circuit
   pub holds : OfParts program circuit
 
--- the circuit that was read beside the tape of the program, from what the order lets the output
--- lines hold, with its borrowed lines
+-- the circuit that was read beside the tape of the program, which puts the outputs where the order
+-- says, with its borrowed lines
 abbrev pub comparison_of : OrderView → TapeView → ReadCircuit → Comparison
 comparison_of order tape circuit =
     beside (of_tape tape)
@@ -62,8 +63,8 @@ pub record Compares (order : OrderView) (OfTwo : Comparison → Type 0) (program
 -- ---- what is written
 
 -- The claims of the program hold on all inputs, and the circuit agrees with it, within the limit of
--- lines: it is a clean circuit for the program, from what the order lets the output lines hold,
--- whose inputs come first, then the outputs, the work lines and the borrowed ones.
+-- lines: it is a clean circuit for the program that puts the outputs where the order says, whose
+-- inputs come first, then the output lines, the work lines and the borrowed ones.
 pub record AreVerified (order : OrderView) (program circuit : List ℕ) : Type 0 where
   pub compared : Compares order IsVerified program circuit
   pub clean : IsCleanCircuit compared.settled.left.program order.outputs order.borrow
@@ -80,6 +81,7 @@ Gives order source written = HasParts source (AreVerified order) × (written ≡
 -- the gate with this number, counted from 1, is the first that is no flip with at most two
 -- controls, all positive
 pub record HasWideGate (q : Comparison) (number : ℕ) : Type 0 where
+  pub outputs : HasEnoughOutputs q
   pub enough : HasEnoughLines q
   pub before : ℕ
   pub first : IsFirstWide q.circuit.gates before
@@ -99,11 +101,14 @@ HasDiagrams ways.Diagrams = Unit {0}
 HasDiagrams ways.Sums = ⊥
 HasDiagrams ways.Both = Unit {0}
 
--- Why a circuit is not verified: it has too few lines or a wide gate; by diagrams, the two have
--- more functions than the nodes, or it differs; by sums alone, it is not settled.
+-- Why a circuit is not verified: the program has too few outputs for its inputs' place; the circuit
+-- has too few lines or a wide gate; by diagrams, the two have more functions than the nodes, or it
+-- differs; by sums alone, it is not settled.
 abbrev pub StopsComparing : OrderView → Fault → Comparison → Type 0
+StopsComparing order (FewOutputs inputs outputs) q =
+    HasFewOutputs q × (inputs ≡ inputs_in q) × (outputs ≡ q.program.outputs)
 StopsComparing order (FewLines lines need) q =
-    (lines ≡ q.circuit.lines) × (lines < need) × (need ≡ least_lines q)
+    HasEnoughOutputs q × (lines ≡ q.circuit.lines) × (lines < need) × (need ≡ least_lines q)
 StopsComparing order (WideGate number) q = HasWideGate q number
 StopsComparing order (CircuitDiagram limit) q =
     HasDiagrams order.way × IsComparable q × HasMore q order.nodes × (limit ≡ order.nodes)
@@ -175,7 +180,7 @@ LeavesNothingOpen fault = Unit {0}
 abbrev pub promise : Promise
 promise = record {
   reads = Some source_limit;
-  statuses = 3 ∷ 4 ∷ 5 ∷ 8 ∷ 13 ∷ 14 ∷ 15 ∷ 16 ∷ 17 ∷ [];
+  statuses = 3 ∷ 4 ∷ 5 ∷ 8 ∷ 13 ∷ 14 ∷ 15 ∷ 16 ∷ 17 ∷ 18 ∷ [];
   Gives = Gives;
   IsCause = IsCause;
   Serves = Serves;

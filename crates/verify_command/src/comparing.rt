@@ -36,8 +36,8 @@ pub fn compare(
         (comparison_with (order_of order.now) tape.now circuit.now)) }
 {
     let values = order.values;
-    let (start, borrow) = (values.outputs, values.borrow);
-    match Compared::of(graph, tape.params(), circuit, start, borrow) {
+    let (placing, borrow) = (values.outputs, values.borrow);
+    match Compared::of(graph, tape.params(), circuit, placing, borrow) {
         Ok(compared) => compare_ready(alloc, compared, order),
         Err(why) => Err(not_comparable_fault(circuit, why)),
     }
@@ -66,6 +66,7 @@ fn not_comparable_fault(circuit: &Circuit, why: NotComparable) -> Fault
     // This call says that the gates can be counted.
     let _ = circuit.len();
     match why {
+        NotComparable::Outputs { inputs, outputs } => Fault::FewOutputs { inputs, outputs },
         NotComparable::Lines { need } => Fault::FewLines { lines, need },
         NotComparable::Gate { gate } => Fault::WideGate { number: gate + 1 },
     }

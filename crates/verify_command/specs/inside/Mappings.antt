@@ -6,7 +6,7 @@ use Rattle.circuit_verify.specs.declared.fault.NotComparable.TheVariants as reas
 use Rattle.circuit_verify.specs.declared.fault.VerifyFault.{VerifyFault}
 use Rattle.circuit_verify.specs.declared.fault.VerifyFault.TheVariants as faults
 use Rattle.command_answers.specs.declared.fault.Fault.{Fault}
-use Rattle.command_answers.specs.declared.fault.Fault.TheVariants.{CircuitDiagram, Differs, FewLines, WideGate, Unsettled, Memory}
+use Rattle.command_answers.specs.declared.fault.Fault.TheVariants.{CircuitDiagram, Differs, FewLines, FewOutputs, WideGate, Unsettled, Memory}
 use Rattle.mct_circuit.specs.Gates.{CircuitView}
 use Rattle.sum_verify.specs.declared.fault.SumsFault.{SumsFault}
 use Rattle.sum_verify.specs.declared.fault.SumsFault.TheVariants as sums
@@ -15,6 +15,7 @@ use Rattle.verify_command.specs.declared.ways.Unverified.TheVariants as ways
 
 -- gates and lines are counted from 1
 abbrev pub not_comparable_fault : CircuitView → NotComparable → Fault
+not_comparable_fault circuit (reasons.Outputs inputs outputs) = FewOutputs inputs outputs
 not_comparable_fault circuit (reasons.Lines need) = FewLines circuit.lines need
 not_comparable_fault circuit (reasons.Gate gate) = WideGate (gate + 1)
 
@@ -34,6 +35,7 @@ unverified_fault (ways.Both left fault) = diagrams_fault fault
 
 -- the gate that is named is one of the circuit
 abbrev pub IsNamedIn : CircuitView → NotComparable → Type 0
+IsNamedIn circuit (reasons.Outputs inputs outputs) = Unit {0}
 IsNamedIn circuit (reasons.Lines need) = Unit {0}
 IsNamedIn circuit (reasons.Gate gate) = gate < length circuit.gates
 
