@@ -22,6 +22,9 @@ const MOST_REGIONS: usize = 4096;
 
 const MOST_FUNCTIONS: usize = 200_000;
 
+/// Of a sum from which cuts are looked for, each atom counts as so many units.
+const UNITS_FOR_ATOM: u64 = 8;
+
 /// Cuts that were met, and what they told.
 #[derive(Drop)]
 pub struct Cuts {
@@ -48,13 +51,19 @@ impl Cuts {
         }
     }
 
-    /// The last atom stands for the product at this place of the table.
+    /// The last atom stands for the product at this place of the table. Where the search has spent
+    /// its work, as where it may take none, that is of no use and not noted.
     pub fn note(&mut self, products: &Products, place: usize)
         ensures { (t : ProductsView) → HoldsCuts t self.old → HoldsCuts t self.new }
     {
+        if self.work.is_stopped() {
+            return;
+        }
         let Some(known) = products.known(place) else {
             return;
         };
+        self.work.spend(atoms_in(&known.first));
+        self.work.spend(atoms_in(&known.second));
         self.atoms.note(&mut self.work, place, known);
     }
 
@@ -135,8 +144,8 @@ impl Cuts {
         Ok(is)
     }
 
-    // Want of memory, where the search met that.
-    fn refused(&self) -> Result<(), Memory> {
+    /// Want of memory, where the search met that.
+    pub fn refused(&self) -> Result<(), Memory> {
         match self.work.finish(()) {
             Err(Stop::Memory(memory)) => Err(memory),
             _ => Ok(()),
@@ -234,7 +243,19 @@ fn tried(
     if work.is_stopped() {
         return Vec::new(work.alloc);
     }
+    for goal in goals {
+        work.spend(atoms_in(goal).saturating_mul(UNITS_FOR_ATOM));
+    }
     places_of(work, Scene { products, atoms }, goals, range)
+}
+
+// How many atoms a form has.
+fn atoms_in(form: &Form) -> u64 {
+    let mut count = 0;
+    for term in form.terms() {
+        count = u64::from(term.word.count_ones()).saturating_add(count);
+    }
+    count
 }
 
 // The atoms that may be new functions of a region.

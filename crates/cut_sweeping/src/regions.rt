@@ -15,6 +15,7 @@ use sum_cuts::{Cut, MOST_SUMS};
 /// A cut, and where to look for its functions.
 #[derive(Drop)]
 pub struct Region {
+    key: u64,
     pub cut: Cut,
     pub guide: Guide,
 }
@@ -33,12 +34,22 @@ pub fn take_out(regions: &mut Vec<Region>, basis: &Basis) -> Option<Region>
 
 // The place of the region of a cut, those used last first.
 fn place_of(regions: &[Region], basis: &Basis) -> Option<usize> {
+    let key = key_of(basis);
     for at in (0..regions.len()).rev() {
-        if is_of(&regions[at].cut, basis) {
+        if regions[at].key == key && is_of(&regions[at].cut, basis) {
             return Some(at);
         }
     }
     None
+}
+
+// A key of the sums of a cut, whatever their order is.
+fn key_of(basis: &Basis) -> u64 {
+    let mut key = 0;
+    for lead in &basis.leads {
+        key ^= lead.form.fingerprint().first;
+    }
+    key
 }
 
 // Whether a cut has these sums.
@@ -68,7 +79,8 @@ pub fn begun(work: &mut Work, basis: &Basis, place: &Place) -> Result<Option<Reg
     }
     let cut = Cut::new(sums)?;
     let guide = Guide::new(work, &cut, basis, place);
-    Ok(Some(Region { cut, guide }))
+    let key = key_of(basis);
+    Ok(Some(Region { key, cut, guide }))
 }
 
 /// Takes the values of the products for which these atoms stand in as functions, where they are.

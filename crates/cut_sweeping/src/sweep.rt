@@ -14,7 +14,7 @@ use std::marker::Model;
 
 /// The most units of the search for cuts: a unit is a vector of 512 bits that is read, or a few
 /// words of a sum.
-const MOST_WORK: u64 = 1 << 33;
+const MOST_WORK: u64 = 1 << 29;
 
 /// Whether cuts are looked for.
 #[derive(Clone, Copy, PartialEq, Eq)]
@@ -30,6 +30,7 @@ pub enum Reach {
 pub struct Sweep {
     products: Products,
     cuts: Cuts,
+    reach: Reach,
 }
 
 impl Model for Sweep {
@@ -52,6 +53,7 @@ impl Sweep {
         Sweep {
             products: Products::new(alloc, given),
             cuts: Cuts::new(alloc, given, work),
+            reach,
         }
     }
 
@@ -93,7 +95,8 @@ impl Sweep {
     /// its own.
     ///
     /// # Errors
-    /// `Limit` where the atoms, the steps or the words held pass their limit, and `Memory`.
+    /// `Limit` where the atoms, the steps, the words held or the work of the search for cuts pass
+    /// their limit, and `Memory`.
     pub fn product(&mut self, first: &Form, second: &Form) -> Result<Form, ProductsFault>
         requires first { IsDetermined self.old first.now }
         requires second { IsDetermined self.old second.now }
@@ -110,7 +113,16 @@ impl Sweep {
     fn normal(&self, form: &Form) -> Result<Form, ProductsFault>
         ensures { IfOk result (AreEqualSums self.now form.now) }
     {
+        self.cuts.refused()?;
+        if self.is_spent() {
+            return Err(ProductsFault::Limit);
+        }
         Ok(self.cuts.zeros.normal(form)?)
+    }
+
+    // Whether the search for cuts has spent its work.
+    fn is_spent(&self) -> bool {
+        self.reach == Reach::Cuts && self.cuts.work.is_stopped()
     }
 
     fn normal_product(&mut self, first: &Form, second: &Form) -> Result<Form, ProductsFault>
@@ -144,7 +156,7 @@ impl Sweep {
     /// Whether two sums are equal, where that is known or a cut tells it: `false` says nothing.
     ///
     /// # Errors
-    /// `Memory`.
+    /// `Limit` where the work of the search for cuts passes its limit, and `Memory`.
     pub fn are_equal(&mut self, first: &Form, second: &Form) -> Result<bool, ProductsFault>
         ensures same { self.new ≡ self.old }
         ensures equal { IfOk result (λ is. is ≡ true
