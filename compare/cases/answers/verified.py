@@ -54,7 +54,7 @@ BY: List[Row] = [
     ("verify --by diagrams --nodes 1", ADDER + PARTING + CARRIED, 5, "revc: circuit passes 1 nodes\n"),
     ("verify --by sums", PRODUCT + PARTING + UNDONE, 17, UNSETTLED),
     ("verify --by both", PRODUCT + PARTING + UNDONE, 15, "revc: circuit differs at line 4 on 11\n"),
-    ("verify --by sums", OF_THREE + PARTING + REGROUPED, 17, UNSETTLED),
+    ("verify --by sums", OF_THREE + PARTING + REGROUPED, 0, VERIFIED),
     ("verify --by both", OF_THREE + PARTING + REGROUPED, 0, VERIFIED),
     ("verify --by sums", PRODUCT + PARTING + TWO_LINES, 13, "revc: circuit has 2 lines, needs 3\n"),
     ("verify --by 3", "", 2, "revc: bad command line\n"),

@@ -15,4 +15,4 @@ mod verifying;
 mod walking;
 
 pub use fault::SumsFault;
-pub use verifying::{Unsettled, verify};
+pub use verifying::{Unsettled, verify, verify_by_cuts};

@@ -15,8 +15,8 @@ use cut_sweeping::{Reach, Sweep};
 use std::alloc::Global;
 use std::marker::Model;
 
-/// A comparison that sums leave unsettled. [`verify`] alone makes one, so who has one asked it of
-/// this very comparison.
+/// A comparison that sums leave unsettled. [`verify`] and [`verify_by_cuts`] alone make one, so who
+/// has one asked them of this very comparison.
 #[derive(Drop)]
 pub struct Unsettled<'s> {
     compared: Compared<'s>,
@@ -46,7 +46,7 @@ impl<'s> Unsettled<'s> {
 ///
 /// The lines are held as exclusive sums of inputs and of products, which `product_sums` numbers and
 /// bounds. A product of sums of products is not multiplied out, so a circuit that agrees may be
-/// left unsettled. Where it is, all is done again with cuts, by `cut_sweeping`.
+/// left unsettled.
 ///
 /// # Errors
 ///
@@ -56,25 +56,35 @@ pub fn verify(alloc: Global, compared: Compared<'_>) -> Result<(), SumsFault<'_>
     ensures verified { OnOk result (IsVerified (comparison compared.entry)) }
     ensures unsettled { IfErr result (IsSumsFault compared.entry) }
 {
+    verify_within(alloc, compared, Reach::Products)
+}
+
+/// The same for a comparison that was left unsettled: all is done again with cuts, by
+/// `cut_sweeping`.
+///
+/// # Errors
+///
+/// As for [`verify`].
+pub fn verify_by_cuts(alloc: Global, left: Unsettled<'_>) -> Result<(), SumsFault<'_>>
+    ensures verified { OnOk result (IsVerified (comparison left.entry)) }
+    ensures unsettled { IfErr result (IsSumsFault left.entry) }
+{
+    verify_within(alloc, left.compared, Reach::Cuts)
+}
+
+fn verify_within(alloc: Global, compared: Compared<'_>, reach: Reach) -> Result<(), SumsFault<'_>>
+    ensures verified { OnOk result (IsVerified (comparison compared.entry)) }
+    ensures unsettled { IfErr result (IsSumsFault compared.entry) }
+{
     let _ = compared.variables(); // shows what is known of both
-    match verify_by_forms(alloc, &compared) {
+    match verify_forms(alloc, &compared, reach) {
         Ok(()) => Ok(()),
         Err(FormsFault::Unsettled) => Err(SumsFault::Unsettled(Unsettled { compared })),
         Err(FormsFault::Memory(memory)) => Err(SumsFault::Memory(memory)),
     }
 }
 
-// The circuit is verified, where the forms of its lines tell: cuts are asked where products alone
-// do not.
-fn verify_by_forms(alloc: Global, compared: &Compared) -> Result<(), FormsFault>
-    ensures { OnOk result (IsVerified (comparison compared.now)) }
-{
-    match verify_forms(alloc, compared, Reach::Products) {
-        Err(FormsFault::Unsettled) => verify_forms(alloc, compared, Reach::Cuts),
-        told => told,
-    }
-}
-
+// The circuit is verified, where the forms of its lines tell.
 fn verify_forms(alloc: Global, compared: &Compared, reach: Reach) -> Result<(), FormsFault>
     ensures { OnOk result (IsVerified (comparison compared.now)) }
 {

@@ -1,14 +1,18 @@
-// A comparison by the way of an order: by diagrams, by sums, or by sums and then by diagrams.
+// A comparison by the way of an order: by diagrams, by sums, or by both.
 ghost use Rattle.std.specs.Prelude.{◌≤◌, IfErr, OnOk};
 ghost use Rattle.circuit_verify.specs.Compared.{comparison};
 ghost use Rattle.circuit_verify.specs.Verdicts.{IsVerified};
 ghost use Rattle.revc_words.specs.Words.{IsWithinLimits, order_of};
+ghost use Rattle.sum_verify.specs.Faults.{IsSumsFault};
 ghost use Rattle.verify_command.specs.inside.Ways.{IsUnverified};
 
 use circuit_verify::{Compared, VerifyFault, verify as by_diagrams};
 use revc_words::{Order, Way};
 use std::alloc::Global;
-use sum_verify::{SumsFault, Unsettled, verify as by_sums};
+use sum_verify::{SumsFault, Unsettled, verify as by_products, verify_by_cuts};
+
+/// The nodes of the diagrams that are asked before cuts.
+const FEW_NODES: u32 = 1 << 15;
 
 /// Why a circuit that can be compared is not verified. Only who asked sums has what they left
 /// unsettled.
@@ -47,21 +51,63 @@ pub fn compare_by_way<'s>(
     }
 }
 
-// Compares the two by sums, and where these leave them unsettled by diagrams.
+// Compares the two by sums: of products alone, and where these leave them unsettled, with cuts.
+fn by_sums(alloc: Global, compared: Compared<'_>) -> Result<(), SumsFault<'_>>
+    ensures verified { OnOk result (IsVerified (comparison compared.entry)) }
+    ensures unsettled { IfErr result (IsSumsFault compared.entry) }
+{
+    match by_products(alloc, compared) {
+        Ok(()) => Ok(()),
+        Err(SumsFault::Unsettled(left)) => verify_by_cuts(alloc, left),
+        Err(fault) => Err(fault),
+    }
+}
+
+// Compares the two by sums of products, by diagrams of few nodes, by sums with cuts, and by
+// diagrams: each where those before leave them unsettled.
 fn by_both(alloc: Global, compared: Compared<'_>, nodes: u32) -> Result<(), Unverified<'_>>
     requires { 1 ≤ nodes }
     ensures verified { OnOk result (IsVerified (comparison compared.entry)) }
     ensures refused { IfErr result (IsUnverified Way.Both compared.entry nodes) }
 {
-    match by_sums(alloc, compared) {
+    match by_products(alloc, compared) {
         Ok(()) => Ok(()),
-        Err(SumsFault::Unsettled(left)) => behind_sums(alloc, left, nodes),
+        Err(SumsFault::Unsettled(left)) => behind_products(alloc, left, nodes),
         Err(fault) => Err(Unverified::Sums(fault)),
     }
 }
 
-// Compares by diagrams the two that sums left unsettled.
-fn behind_sums(alloc: Global, left: Unsettled<'_>, nodes: u32) -> Result<(), Unverified<'_>>
+fn behind_products(alloc: Global, left: Unsettled<'_>, nodes: u32) -> Result<(), Unverified<'_>>
+    requires { 1 ≤ nodes }
+    ensures verified { OnOk result (IsVerified (comparison left.entry)) }
+    ensures refused { IfErr result (IsUnverified Way.Both left.entry nodes) }
+{
+    let few = nodes.min(FEW_NODES);
+    match by_diagrams(alloc, left.compared(), few) {
+        Ok(()) => Ok(()),
+        Err(VerifyFault::Diagram { .. }) => behind_few(alloc, left, nodes),
+        Err(VerifyFault::Differs { line, bits }) => {
+            Err(Unverified::Both(left, VerifyFault::Differs { line, bits }))
+        }
+        Err(VerifyFault::Memory(memory)) => {
+            Err(Unverified::Both(left, VerifyFault::Memory(memory)))
+        }
+    }
+}
+
+fn behind_few(alloc: Global, left: Unsettled<'_>, nodes: u32) -> Result<(), Unverified<'_>>
+    requires { 1 ≤ nodes }
+    ensures verified { OnOk result (IsVerified (comparison left.entry)) }
+    ensures refused { IfErr result (IsUnverified Way.Both left.entry nodes) }
+{
+    match verify_by_cuts(alloc, left) {
+        Ok(()) => Ok(()),
+        Err(SumsFault::Unsettled(left)) => behind_cuts(alloc, left, nodes),
+        Err(fault) => Err(Unverified::Sums(fault)),
+    }
+}
+
+fn behind_cuts(alloc: Global, left: Unsettled<'_>, nodes: u32) -> Result<(), Unverified<'_>>
     requires { 1 ≤ nodes }
     ensures verified { OnOk result (IsVerified (comparison left.entry)) }
     ensures refused { IfErr result (IsUnverified Way.Both left.entry nodes) }
