@@ -1,0 +1,230 @@
+// Passes over all nodes, until none gains.
+use crate::cleaning::clean;
+use crate::graph::{GONE, Graph};
+use crate::growing::grown;
+use crate::rewriting::{Gain, rewrite};
+use crate::windows::{RANK, Target, Window};
+use plan_tools::Work;
+
+/// In which order nodes are gone over.
+#[derive(Clone, Copy, PartialEq, Eq)]
+pub enum Order {
+    /// From the inputs.
+    Forth,
+    /// From the outputs.
+    Back,
+}
+
+impl Order {
+    /// The other one.
+    pub fn turned(self) -> Order {
+        match self {
+            Order::Forth => Order::Back,
+            Order::Back => Order::Forth,
+        }
+    }
+}
+
+// The most passes of one plateau.
+const MOST_PASSES: usize = 16;
+
+// A pass gains where it takes away more than one product in so many.
+const LEAST_GAIN: usize = 400;
+
+// The most products of a node that are seeds, and of which others are looked for beside a seed; and
+// how many of them are taken together.
+const MOST_SEEDS: usize = 64;
+
+const MOST_OWN: usize = 8;
+
+// Where so many products were gone over and none was gained, nothing is looked for any more.
+const FRUITLESS: usize = 2_000;
+
+/// The search, and the units that it may spend.
+#[derive(Clone, Copy)]
+pub struct Search {
+    pub order: Order,
+    pub most_units: u64,
+    pub may_simplify: bool,
+}
+
+/// Passes in one order until none gains, with simpler products where nothing else is found.
+pub fn settle(graph: &mut Graph, work: &mut Work, order: Order, most_units: u64) {
+    clean(graph, work);
+    let mut search = Search {
+        order,
+        most_units,
+        may_simplify: false,
+    };
+    let mut had_gain = true;
+    let mut before = graph.count();
+    for _ in 0..MOST_PASSES {
+        let simpler = pass(graph, work, search);
+        clean(graph, work);
+        let now = graph.count();
+        let gains = before.saturating_sub(now).saturating_mul(LEAST_GAIN) > now;
+        before = now;
+        if work.is_stopped() || work.spent() > most_units {
+            return;
+        }
+        if gains {
+            had_gain = true;
+            search.may_simplify = false;
+        } else if !search.may_simplify {
+            search.may_simplify = true;
+        } else if simpler == 0 || !had_gain {
+            return;
+        } else {
+            had_gain = false;
+            search.may_simplify = false;
+        }
+    }
+}
+
+// One pass; how many products became simpler.
+fn pass(graph: &mut Graph, work: &mut Work, search: Search) -> usize {
+    let mut simpler: usize = 0;
+    let mut seen: usize = 0;
+    let mut gained: usize = 0;
+    for node in &nodes_in_order(graph, work, search.order) {
+        let is_fruitless = seen >= FRUITLESS && gained == 0 && simpler == 0;
+        if work.is_stopped() || work.spent() > search.most_units || is_fruitless {
+            break;
+        }
+        seen = seen.saturating_add(graph.products(*node).len());
+        let gain = rewrite_node(graph, work, *node, search.may_simplify);
+        gained = gained.saturating_add(gain.products);
+        simpler = simpler.saturating_add(usize::from(gain.is_simpler));
+    }
+    simpler
+}
+
+fn nodes_in_order(graph: &Graph, work: &mut Work, order: Order) -> Vec<u32> {
+    let mut places = Vec::new(work.alloc);
+    for node in 0..graph.nodes() {
+        let place = graph.node_place(node);
+        if place != GONE {
+            work.push(&mut places, (place, node));
+        }
+    }
+    work.note(places.sort());
+    let mut nodes = Vec::new(work.alloc);
+    for (_, node) in &places {
+        work.push(&mut nodes, *node);
+    }
+    if order == Order::Back {
+        nodes.reverse();
+    }
+    nodes
+}
+
+// ---- one node
+
+// Rewrites the products of a node: each is a seed beside which others are taken, and is tried alone
+// where that gains nothing.
+fn rewrite_node(graph: &mut Graph, work: &mut Work, node: u32, may_simplify: bool) -> Gain {
+    let mut all = Gain::NONE;
+    let mut seed = 0;
+    for _ in 0..MOST_SEEDS.saturating_mul(4) {
+        if seed >= graph.products(node).len().min(MOST_SEEDS) || graph.node_place(node) == GONE {
+            break;
+        }
+        let gain = rewrite_seed(graph, work, node, seed, may_simplify);
+        all.products = all.products.saturating_add(gain.products);
+        all.is_simpler = all.is_simpler || gain.is_simpler;
+        if gain.products == 0 {
+            seed += 1;
+        }
+    }
+    all
+}
+
+fn rewrite_seed(
+    graph: &mut Graph,
+    work: &mut Work,
+    node: u32,
+    seed: usize,
+    may_simplify: bool,
+) -> Gain {
+    let target = target_of(graph, work, node, seed);
+    let gain = rewrite_target(graph, work, &target, may_simplify);
+    if gain.products > 0 || target.own.len() < 2 {
+        return gain;
+    }
+    let alone = Target {
+        node,
+        own: work.copy(&[seed]),
+    };
+    rewrite_target(graph, work, &alone, may_simplify)
+}
+
+fn rewrite_target(graph: &mut Graph, work: &mut Work, target: &Target, may_simplify: bool) -> Gain {
+    match grown(graph, work, target) {
+        Some(window) => rewrite(graph, work, target, window, may_simplify),
+        None => Gain::NONE,
+    }
+}
+
+// A seed, and the products beside it that are of few more sums.
+fn target_of(graph: &Graph, work: &mut Work, node: u32, seed: usize) -> Target {
+    let mut target = Target {
+        node,
+        own: work.copy(&[seed]),
+    };
+    let count = graph.products(node).len();
+    let Some(window) = Window::of(graph, work, &target, Vec::new(work.alloc)) else {
+        return target;
+    };
+    let mut rank = window.rank();
+    for _ in 1..count.min(MOST_OWN) {
+        let Some((more, place)) = nearest(graph, work, &target, count, rank) else {
+            break;
+        };
+        if more > RANK || more >= rank.saturating_add(2) {
+            break;
+        }
+        work.push(&mut target.own, place);
+        rank = more;
+    }
+    target
+}
+
+// The product that is of the fewest sums together with a target's, and how many these are.
+fn nearest(
+    graph: &Graph,
+    work: &mut Work,
+    target: &Target,
+    count: usize,
+    rank: usize,
+) -> Option<(usize, usize)> {
+    let mut best: Option<(usize, usize)> = None;
+    if count > MOST_SEEDS {
+        return None;
+    }
+    for place in 0..count {
+        if target.has(place) {
+            continue;
+        }
+        let Some(found) = rank_with(graph, work, target, place) else {
+            continue;
+        };
+        if best.is_none_or(|best| (found, place) < best) {
+            best = Some((found, place));
+        }
+        if found == rank {
+            break;
+        }
+    }
+    best
+}
+
+fn rank_with(graph: &Graph, work: &mut Work, target: &Target, place: usize) -> Option<usize> {
+    let mut own = work.copy(&target.own);
+    work.push(&mut own, place);
+    let both = Target {
+        node: target.node,
+        own,
+    };
+    let window = Window::of(graph, work, &both, Vec::new(work.alloc))?;
+    Some(window.rank())
+}

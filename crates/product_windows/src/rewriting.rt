@@ -1,0 +1,271 @@
+// A target rewritten with fewer products, or with a product of fewer symbols.
+use crate::graph::Graph;
+use crate::naming::Names;
+use crate::programs::{Program, program_for};
+use crate::simpler::simpler;
+use crate::spans::{ONE, bit, has, mask_of};
+use crate::steps::{Opened, Step};
+use crate::sums::{Affine, SymbolProduct, SymbolSum};
+use crate::windows::{Target, Window};
+use plan_tools::Work;
+
+/// What a rewriting gained.
+#[derive(Clone, Copy)]
+pub struct Gain {
+    pub products: usize,
+    /// Whether a product was made of fewer symbols instead.
+    pub is_simpler: bool,
+}
+
+impl Gain {
+    /// Nothing.
+    pub const NONE: Gain = Gain {
+        products: 0,
+        is_simpler: false,
+    };
+}
+
+/// Rewrites a target by a window, with fewer products than it has together with the nodes that are
+/// gone then; where `may_simplify`, else with one product of fewer symbols.
+pub fn rewrite(
+    graph: &mut Graph,
+    work: &mut Work,
+    target: &Target,
+    window: Window,
+    may_simplify: bool,
+) -> Gain {
+    let rewriting = Rewriting::of(graph, work, target, window);
+    let Some((program, is_simpler)) = rewriting.program(work, may_simplify) else {
+        return Gain::NONE;
+    };
+    let products = rewriting.cost.saturating_sub(program.products.len());
+    rewriting.apply(graph, work, target, &program);
+    Gain {
+        products,
+        is_simpler,
+    }
+}
+
+// A target, what is gone once it is rewritten, and what stays.
+#[derive(Drop)]
+struct Rewriting {
+    window: Window,
+    /// How many products it and the nodes that are gone have.
+    cost: usize,
+    /// The products of the target that stay.
+    rest: SymbolSum,
+    /// Its own products, and the nodes that are gone in its bits, in each row.
+    goal: u64,
+    names: Names,
+    /// The symbols of the only product that goes.
+    size: Option<usize>,
+}
+
+impl Rewriting {
+    fn of(graph: &Graph, work: &mut Work, target: &Target, window: Window) -> Rewriting {
+        let gone = gone_nodes(graph, work, target, &window);
+        let mut rest = SymbolSum::zero(work.alloc);
+        let mut goal = window.own;
+        if let Some(sum) = graph.sum(target.node) {
+            rest.one = sum.one;
+            goal ^= add_rest(work, target, &window, &gone, sum, &mut rest);
+        }
+        let names = Names::of(graph, work, &window, &gone);
+        Rewriting {
+            cost: cost_of(graph, target, &gone),
+            rest,
+            goal,
+            names,
+            size: only_size(graph, target),
+            window,
+        }
+    }
+
+    // A program for the goal, and whether it has as many products as before.
+    fn program(&self, work: &mut Work, may_simplify: bool) -> Option<(Program, bool)> {
+        if self.cost == 0 {
+            return None;
+        }
+        let words = &self.names.words;
+        if self.cost >= 2
+            && mask_of(words, self.goal).is_none()
+            && let Some(found) = simpler(work, &self.names, self.goal, MOST_SIZE)
+        {
+            return Some((found, false));
+        }
+        let most = self.cost - 1;
+        if let Some(found) = program_for(work, words, self.goal, most.min(1)) {
+            return Some((found, false));
+        }
+        if most >= 2
+            && let Some(found) = program_for(work, words, self.goal, 2)
+        {
+            return Some((found, false));
+        }
+        if !may_simplify || self.cost != 1 {
+            return None;
+        }
+        Some((simpler(work, &self.names, self.goal, self.size?)?, true))
+    }
+
+    // Gives the target its new sum.
+    fn apply(self, graph: &mut Graph, work: &mut Work, target: &Target, program: &Program) {
+        let Rewriting {
+            window,
+            rest,
+            mut names,
+            ..
+        } = self;
+        let Window { opened, basis, .. } = window;
+        let mut opened = Opened {
+            symbols: opened,
+            sums: basis,
+        };
+        let mut made = rest;
+        let count = names.words.len();
+        for (place, (a, b)) in program.products.iter().enumerate() {
+            let first = names.affine(work, *a);
+            let second = names.affine(work, *b);
+            let at = count.saturating_add(place);
+            let name = if is_inner(program, at) {
+                product_node(graph, work, target.node, &first, &second, &mut opened)
+            } else {
+                if has(program.out & !ONE, at) {
+                    made.add_product(work, &first, &second);
+                }
+                Affine::zero(work.alloc)
+            };
+            names.push(work, name);
+        }
+        let bits = names.sum(work, program.out);
+        made.add_affine(work, &bits);
+        names.shorten(work, &mut made);
+        put(graph, work, target.node, made, opened);
+    }
+}
+
+// The most symbols of a product that takes the place of several.
+const MOST_SIZE: usize = 64;
+
+// Whether a product of a program is in a factor of another one.
+fn is_inner(program: &Program, place: usize) -> bool {
+    program
+        .products
+        .iter()
+        .any(|(a, b)| (*a | *b) & !ONE & bit(place) != 0)
+}
+
+// A new node with a product; its symbol, and the constant that the product has beside it.
+fn product_node(
+    graph: &mut Graph,
+    work: &mut Work,
+    target: u32,
+    first: &Affine,
+    second: &Affine,
+    opened: &mut Opened,
+) -> Affine {
+    let mut sum = SymbolSum::zero(work.alloc);
+    sum.add_product(work, first, second);
+    let one = sum.one;
+    sum.one = false;
+    let symbol = graph.push_before(work, sum, target);
+    opened.open(work, symbol);
+    let mut name = Affine::symbol(work, symbol);
+    name.one = one;
+    name
+}
+
+// Gives a node another sum of the same value.
+fn put(graph: &mut Graph, work: &mut Work, target: u32, sum: SymbolSum, opened: Opened) {
+    let mut change = sum.copy(work);
+    if let Some(old) = graph.sum(target) {
+        change.add(work, old);
+    }
+    graph.set(work, target, sum);
+    let step = Step::Window {
+        target,
+        change,
+        opened,
+    };
+    graph.note(work, step);
+}
+
+// ---- what goes and what stays
+
+// The opened nodes that the target's own products and such nodes alone use, the last first.
+fn gone_nodes(graph: &Graph, work: &mut Work, target: &Target, window: &Window) -> Vec<u32> {
+    let mut gone = Vec::new(work.alloc);
+    for symbol in window.opened.iter().rev() {
+        if goes(graph, target, &gone, *symbol) {
+            work.push(&mut gone, *symbol);
+        }
+    }
+    gone
+}
+
+fn goes(graph: &Graph, target: &Target, gone: &[u32], symbol: u32) -> bool {
+    let Some(node) = graph.node(symbol) else {
+        return false;
+    };
+    let users = graph.users(symbol);
+    let is_inside = |user: &u32| *user == target.node || gone.contains(&graph.symbol(*user));
+    !graph.is_output(node)
+        && !is_in_rest(graph, target, symbol)
+        && !users.is_empty()
+        && users.iter().all(is_inside)
+}
+
+// Whether a product that stays has a symbol.
+fn is_in_rest(graph: &Graph, target: &Target, symbol: u32) -> bool {
+    let products = graph.products(target.node);
+    products.iter().enumerate().any(|(place, product)| !target.has(place) && product.has(symbol))
+}
+
+fn cost_of(graph: &Graph, target: &Target, gone: &[u32]) -> usize {
+    let mut cost = target.own.len();
+    for symbol in gone {
+        if let Some(sum) = graph.sum_of_symbol(*symbol) {
+            cost = cost.saturating_add(sum.products.len());
+        }
+    }
+    cost
+}
+
+// The products and bits of the target that stay; the word of the nodes in its bits that go.
+fn add_rest(
+    work: &mut Work,
+    target: &Target,
+    window: &Window,
+    gone: &[u32],
+    sum: &SymbolSum,
+    rest: &mut SymbolSum,
+) -> u64 {
+    let mut word = 0;
+    for symbol in &sum.bits {
+        match window.known(*symbol) {
+            Some(known) if gone.contains(symbol) => {
+                word ^= known.word;
+                rest.add_bits(work, &known.leaf);
+            }
+            _ => rest.add_bits(work, &[*symbol]),
+        }
+    }
+    for (place, product) in sum.products.iter().enumerate() {
+        if !target.has(place) {
+            let product = product.copy(work);
+            rest.toggle(work, product);
+        }
+    }
+    word
+}
+
+// How many symbols the only product of a target has.
+fn only_size(graph: &Graph, target: &Target) -> Option<usize> {
+    match target.own.as_slice() {
+        [place] => graph
+            .products(target.node)
+            .get(*place)
+            .map(SymbolProduct::size),
+        _ => None,
+    }
+}

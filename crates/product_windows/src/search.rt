@@ -1,0 +1,95 @@
+// The search from both sides.
+use crate::cleaning::clean;
+use crate::graph::Graph;
+use crate::passes::{Order, settle};
+use crate::steps::{Proposal, Sums};
+use crate::sums::SymbolSum;
+use plan_tools::{Stop, Work};
+use std::alloc::Global;
+
+// The most units that are spent, and how many more for each product. A unit is some 80 ns.
+const MOST_UNITS: u64 = 100_000_000;
+
+const UNITS_A_PRODUCT: u64 = 4_000;
+
+// How often the order is turned at most.
+const MOST_TURNS: usize = 6;
+
+// A turn gains where it takes away more than one product in so many.
+const LEAST_GAIN: usize = 50;
+
+// So many products are more than are gone over a second time where the first time gains nothing.
+const FEW_PRODUCTS: usize = 1_000;
+
+/// Steps that leave a graph of sums with fewer products, so far as some are found: from the inputs,
+/// and from the outputs, each in turns with the other, as long as that gains.
+///
+/// # Errors
+///
+/// `Memory` where memory is refused. No clause says so.
+pub fn propose(alloc: Global, sums: &Sums) -> Result<Proposal, Stop> {
+    let mut work = Work::new(alloc, u64::MAX);
+    let begun = Graph::of(&mut work, sums);
+    let mut first = begun.copy(&mut work);
+    let before = count_of(&sums.nodes).saturating_add(count_of(&sums.outputs));
+    let most = UNITS_A_PRODUCT
+        .saturating_mul(before as u64)
+        .saturating_add(MOST_UNITS);
+    let forth = best_from(&mut first, &mut work, Order::Forth, most);
+    if forth.products >= before && before > FEW_PRODUCTS {
+        return work.finish(first.into_proposal(forth.steps));
+    }
+    let mut second = begun;
+    let back = best_from(&mut second, &mut work, Order::Back, most);
+    if back.products < forth.products {
+        work.finish(second.into_proposal(back.steps))
+    } else {
+        work.finish(first.into_proposal(forth.steps))
+    }
+}
+
+fn count_of(sums: &[SymbolSum]) -> usize {
+    let mut count: usize = 0;
+    for sum in sums {
+        count = count.saturating_add(sum.products.len());
+    }
+    count
+}
+
+// How few products there were, and behind how many steps.
+#[derive(Clone, Copy)]
+struct Best {
+    products: usize,
+    steps: usize,
+}
+
+fn best_from(graph: &mut Graph, work: &mut Work, start: Order, most: u64) -> Best {
+    clean(graph, work);
+    let mut best = Best {
+        products: graph.count(),
+        steps: graph.done(),
+    };
+    let mut order = start;
+    let mut last = usize::MAX;
+    for _ in 0..MOST_TURNS {
+        settle(graph, work, order, most);
+        let now = graph.count();
+        if now < best.products {
+            best = Best {
+                products: now,
+                steps: graph.done(),
+            };
+        }
+        let is_first = last == usize::MAX;
+        let gains = now.saturating_mul(LEAST_GAIN) <= last.saturating_mul(LEAST_GAIN - 1);
+        if now >= last || now == 0 || work.is_stopped() || work.spent() > most {
+            break;
+        }
+        if !is_first && !gains {
+            break;
+        }
+        last = now;
+        order = order.turned();
+    }
+    best
+}
