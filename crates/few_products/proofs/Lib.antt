@@ -1,0 +1,6 @@
+pub mod CountLemmas
+pub mod DefinitionLemmas
+pub mod PlacingLemmas
+pub mod ReadingLemmas
+pub mod RewritingLemmas
+pub mod WritingLemmas
