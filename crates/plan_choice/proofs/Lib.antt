@@ -1,4 +1,5 @@
 pub mod CopiedLemmas
+pub mod FewerLemmas
 pub mod LeanLemmas
 pub mod SearchLemmas
 pub mod ShallowLemmas

@@ -7,12 +7,14 @@ ghost use Rattle.plan_choice.specs.inside.Tried.{IsRow, IsWithin};
 ghost use Rattle.sum_graph.specs.Graphs.{IsLeanOf, first_work, sum_outputs};
 ghost use Rattle.sum_toggles.specs.Toggles.{toggle_weight};
 
+use crate::fewer::{FewerPlanner, plan_fewer};
 use crate::laying::{Tried, lay_narrow};
 use crate::scripts::follow_moves;
 use crate::singles::{Planner, plan_single};
 use bit_sums::Sum;
 use circuit_plans::{Budget, Laid, PlanFault, Planned, Size, Start};
 use claim_check::Settled;
+use few_products::few_products;
 use plan_tools::Limits;
 use std::alloc::Global;
 use sum_graph::SumGraph;
@@ -39,13 +41,42 @@ pub fn lay_lean(
     let found = follow_moves(alloc, lean, budget, start, homes)?;
     let best = or_better(alloc, lean, budget, start, most, row, found);
     if start == Start::Any {
-        return best;
+        return or_fewer(alloc, lean, budget, start, most, best);
     }
     let spans = span_plans::plan(alloc, lean, limits);
     let found = follow_moves(alloc, lean, budget, start, spans)?;
     let best = or_better(alloc, lean, budget, start, most, best, found);
     let states = plan_single(alloc, graph, budget, start, Planner::State)?;
-    or_better(alloc, lean, budget, start, most, best, states)
+    let best = or_better(alloc, lean, budget, start, most, best, states);
+    or_fewer(alloc, lean, budget, start, most, best)
+}
+
+// What was tried, or a better plan of a graph with fewer products, where one is found.
+fn or_fewer(
+    alloc: Global,
+    lean: &SumGraph,
+    budget: &Budget,
+    start: Start,
+    most: Most,
+    tried: Tried,
+) -> Tried
+    requires ports { HasPortLines (first_work lean.now) budget.now }
+    requires most { IsMost start lean.now budget.now most }
+    requires ok { IfOk tried (IsLaidLean start lean.now budget.now) }
+    requires refused { IfErr tried (IsLeanFault lean.now budget.now) }
+    ensures ok { IfOk result (IsLaidLean start lean.now budget.now) }
+    ensures refused { IfErr result (IsLeanFault lean.now budget.now) }
+{
+    let Some(fewer) = few_products(alloc, lean)? else {
+        return tried;
+    };
+    let homes = plan_fewer(alloc, lean, &fewer, budget, start, FewerPlanner::Homes)?;
+    let best = or_better(alloc, lean, budget, start, most, tried, homes);
+    if start == Start::Any {
+        return best;
+    }
+    let spans = plan_fewer(alloc, lean, &fewer, budget, start, FewerPlanner::Spans)?;
+    or_better(alloc, lean, budget, start, most, best, spans)
 }
 
 // The budget as planners take it.

@@ -3,6 +3,7 @@
 
 mod choosing;
 mod copied;
+mod fewer;
 mod laying;
 mod lean;
 mod scripts;

@@ -8,6 +8,6 @@ or_better-best-requires-clause-ok c =
     let l = c.args.lean.now in let b = c.args.budget.now in
     IfOk-weaker c.lay_row-row.result (IsRow l b) (IsLaidLean c.args.start l b) (any_start c.args.start l b) c.lay_row-row.ensures.ok
 
-pub or_better-requires-clause-found : goal.or_better-requires-clause-found
-or_better-requires-clause-found c =
+pub or_better-best-requires-3-clause-found : goal.or_better-best-requires-3-clause-found
+or_better-best-requires-3-clause-found c =
     lean_found c.args.graph.now c.args.lean.now c.args.budget.now c.requires.lean c.args.start c.in_ok-states.states c.in_ok-states.ensures
