@@ -1,10 +1,10 @@
 // Copies that moves can do without.
 use crate::moves::{Gathering, Gatherings, Move, Moves};
-use plan_tools::{NOWHERE, Table, Work, list_at};
+use plan_tools::{NOWHERE, Table, Work, list_at, put};
 use std::alloc::Global;
 
 /// How many copies to one line are looked through for one that stands there again.
-const MOST_OPEN: usize = 256;
+const MOST_OPEN: usize = 1024;
 
 /// How often moves are gone through, and how many of them in all.
 const MOST_PASSES: u32 = 16;
@@ -205,17 +205,26 @@ impl<'m> Pass<'m> {
         true
     }
 
-    // The place of the copy of `from` to `to` that may meet its like. It is looked at once.
+    // The place of the last copy of `from` to `to`, if it may meet its like. It is looked at once.
     fn take_open(&mut self, from: u32, to: u32) -> Option<u32> {
+        let least = self.least_place(from, to);
         let to = to as usize;
         if to >= self.opens.len() {
             return None;
         }
-        let k = first_from(&self.opens[to], from);
+        let k = last_from(&self.opens[to], from, least)?;
         if k >= self.opens[to].len() {
             return None;
         }
-        Some(self.opens[to].swap_remove(k).place)
+        Some(self.opens[to].remove(k).place)
+    }
+
+    // The least place of a copy of `from` to `to` behind which no two moves change the one or read
+    // the other.
+    fn least_place(&self, from: u32, to: u32) -> u32 {
+        let reads = self.lines.get(to).reads.before.unwrap_or(0);
+        let changes = self.lines.get(from).changes.before.unwrap_or(0);
+        reads.max(changes)
     }
 
     // What stands behind the place of a copy of `from` to `to`.
@@ -255,13 +264,22 @@ impl<'m> Pass<'m> {
     // A copy that stays, so far.
     fn keep(&mut self, place: u32, from: u32, to: u32) {
         self.note(place, from, to);
+        if list_at(&self.opens, to).len() >= MOST_OPEN {
+            self.shed(to);
+        }
         let to = to as usize;
         if to < self.opens.len() {
-            if self.opens[to].len() >= MOST_OPEN {
-                self.opens[to].clear();
-            }
             self.work.push(&mut self.opens[to], Open { from, place });
         }
+    }
+
+    // Forgets the copies to a line behind which two moves read it; all, where many are left.
+    fn shed(&mut self, to: u32) {
+        let least = self.lines.get(to).reads.before.unwrap_or(0);
+        let all = list_at(&self.opens, to);
+        let first = first_left(all, least).min(all.len());
+        let rest = self.work.copy(&all[first..]);
+        put(&mut self.opens, to, rest);
     }
 
     fn note(&mut self, place: u32, from: u32, to: u32) {
@@ -297,14 +315,31 @@ impl<'m> Pass<'m> {
     }
 }
 
-// Where the first copy from a line stands; behind all where there is none.
-fn first_from(opens: &[Open], from: u32) -> usize {
-    let mut k: usize = 0;
+// Where the copies from a place on begin; behind all, where these are many. Places rise.
+fn first_left(opens: &[Open], least: u32) -> usize {
+    let mut first: usize = 0;
     for open in opens {
-        if open.from == from {
-            return k;
+        if open.place >= least {
+            break;
         }
-        k = k.saturating_add(1);
+        first = first.saturating_add(1);
     }
-    k
+    if opens.len().saturating_sub(first) > MOST_OPEN / 2 {
+        opens.len()
+    } else {
+        first
+    }
+}
+
+// Where the last copy from a line stands, if its place is not before the least one. Places rise.
+fn last_from(opens: &[Open], from: u32, least: u32) -> Option<usize> {
+    for (k, open) in opens.iter().enumerate().rev() {
+        if open.place < least {
+            return None;
+        }
+        if open.from == from {
+            return Some(k);
+        }
+    }
+    None
 }
