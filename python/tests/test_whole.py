@@ -1,4 +1,5 @@
 """Whole ciphers and hashes: their circuits give the published vectors, in both formats, and their texts are those kept."""
+import hashlib
 import sys
 import unittest
 from pathlib import Path
@@ -6,7 +7,9 @@ from pathlib import Path
 sys.path.insert(0, str(Path(__file__).resolve().parent.parent / "examples"))
 
 from aes128_key import aes128_key
-from whole import FOLDER, WHOLE
+from md5 import START, md5
+from whole import FOLDER, WHOLE, joined, words
+from xtea import xtea
 
 
 class Wholes(unittest.TestCase):
@@ -22,6 +25,13 @@ class Wholes(unittest.TestCase):
             for form in ("real", "qasm"):
                 found = circuit.run_many([row for row, _ in cases], form)
                 self.assertEqual(found, [wanted for _, wanted in cases], f"{each.oracle.name}, {form}")
+
+    def test_programs_of_one_script(self) -> None:
+        block = b"abc\x80" + bytes(52) + (24).to_bytes(8, "little")
+        found = md5(state=joined(START, 32), block=int.from_bytes(block, "little"))
+        self.assertEqual(found, words(hashlib.md5(b"abc").digest(), 4, "little"))
+        key, text = words(bytes(range(16))), words(b"ABCDEFGH")
+        self.assertEqual(xtea(text=joined(text, 32), key=joined(key, 32)), [0x497df3d0, 0x72612cb5])
 
     def test_key_search(self) -> None:
         right = int.from_bytes(bytes(range(16)), "little")
