@@ -11,6 +11,7 @@ use Rattle.arith_templates.specs.declared.kind.Kind.TheVariants.{Add, Mul}
 use Rattle.command_answers.specs.declared.fault.Fault.{Fault}
 use Rattle.command_answers.specs.declared.fault.Fault.TheVariants as faults
 use Rattle.circuit_plans.specs.declared.roles.Roles.{Roles}
+use Rattle.circuit_plans.specs.declared.roles.Placing.TheVariants.{Added}
 use Rattle.circuit_plans.specs.declared.roles.Start.TheVariants.{Any}
 use Rattle.mct_circuit.specs.Gates.{GateView}
 use Rattle.program_texts.specs.Clean.{IsCleanCircuit}
@@ -48,7 +49,8 @@ usual_within format = record {
 
 -- a clean circuit of the program adds what the kind says
 numbers_added : (order : OrderView) (text : List ℕ) (t : Computes order.kind order.number order.by text) (roles : Roles) (gates : List GateView)
-    → IsCleanCircuit t.program Any 0 roles gates → (input : List Bool) → length input ≡ inputs_of order.kind order.number → AddsNumbers order roles gates input
+    → IsCleanCircuit t.program (Added Any) 0 roles gates → (input : List Bool) → length input ≡ inputs_of order.kind order.number
+    → AddsNumbers order roles gates input
 numbers_added order text t roles gates clean input whole =
     let is : IsInput t.program.params input = whole ∙ sym t.inputs in
     let on = clean.computes input [] is refl in
@@ -56,7 +58,7 @@ numbers_added order text t roles gates clean input whole =
 
 -- it has an output line for each output
 outputs_are : (order : OrderView) (text : List ℕ) (t : Computes order.kind order.number order.by text) (roles : Roles) (gates : List GateView)
-    → IsCleanCircuit t.program Any 0 roles gates → roles.outputs ≡ outputs_of order.kind order.number order.by
+    → IsCleanCircuit t.program (Added Any) 0 roles gates → roles.outputs ≡ outputs_of order.kind order.number order.by
 outputs_are order text t roles gates clean =
     let count = inputs_of order.kind order.number in
     let input : List Bool = replicate count false in
@@ -70,8 +72,8 @@ circuit_of format order file t c =
     let roles = c.clean.roles in
     let gates = c.clean.gates in
     let same : t.program ≡ c.settled.left.program = c.only t.program t.formed in
-    let clean : IsCleanCircuit t.program Any 0 roles gates =
-    subst (λ (p : ProgramView). IsCleanCircuit p Any 0 roles gates) (sym same) c.clean.circuit in
+    let clean : IsCleanCircuit t.program (Added Any) 0 roles gates =
+    subst (λ (p : ProgramView). IsCleanCircuit p (Added Any) 0 roles gates) (sym same) c.clean.circuit in
     record {
       roles = roles;
       gates = gates;

@@ -4,6 +4,7 @@ use Rattle.circuit_plans.specs.declared.choice.Plan.{Plan}
 use Rattle.circuit_plans.specs.declared.choice.Plan.TheVariants.{Auto, Compact, Eager, Lean, Pebble, Shallow}
 use Rattle.circuit_plans.specs.declared.plan.TheConstants.{MOST_GATES, MOST_LINES}
 use Rattle.circuit_plans.specs.declared.roles.Roles.{Roles}
+use Rattle.circuit_plans.specs.declared.roles.Placing.TheVariants.{Added}
 use Rattle.circuit_plans.specs.declared.roles.Start.{Start}
 use Rattle.circuit_plans.specs.Plans.{LaidView, lines_in, roles_of}
 use Rattle.mct_circuit.specs.Gates.{AreGatesOn, GateView}
@@ -14,7 +15,7 @@ use Rattle.revs_tape.specs.Measures.{ands_of}
 use Rattle.revs_tape.specs.Tapes.{TapeView}
 use Rattle.revs_terms.specs.Views.{ProgramView}
 use Rattle.revc_words.specs.Words.{OrderView}
-use Rattle.program_texts.specs.Clean.{ComputesOn, IsCleanCircuit}
+use Rattle.program_texts.specs.Clean.{AddsOn, IsCleanCircuit}
 use Rattle.program_commands.specs.Compile.{AreWrittenFor, HasCircuit, HasLeanSize, IsPlannedAs}
 use Rattle.program_commands.specs.inside.Plans.{IsOrderedPlan, IsPlannedFor}
 
@@ -39,7 +40,7 @@ further Shallow old mid new one other = other ∙ one
 -- ---- the circuit
 
 computes_still : (p : ProgramView) (start : Start) (roles : Roles) (old new : List GateView) (input bits : List Bool) → AreReordered old new
-    → ComputesOn p start roles old input bits → ComputesOn p start roles new input bits
+    → AddsOn p start roles old input bits → AddsOn p start roles new input bits
 computes_still p start roles old new input bits is c = record {
   output = c.output;
   is = c.is;
@@ -48,7 +49,7 @@ computes_still p start roles old new input bits is c = record {
 }
 
 clean_still : (p : ProgramView) (start : Start) (borrowed : ℕ) (roles : Roles) (old new : List GateView) → AreReordered old new
-    → IsCleanCircuit p start borrowed roles old → IsCleanCircuit p start borrowed roles new
+    → IsCleanCircuit p (Added start) borrowed roles old → IsCleanCircuit p (Added start) borrowed roles new
 clean_still p start borrowed roles old new is c = record {
   inputs = c.inputs;
   borrows = c.borrows;

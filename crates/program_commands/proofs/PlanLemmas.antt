@@ -35,7 +35,7 @@ use Rattle.revs_terms.proofs.TapeLemmas.{tape_gives_output}
 use Rattle.command_answers.specs.declared.fault.Fault.{Fault}
 use Rattle.command_answers.specs.declared.fault.Fault.TheVariants as faults
 use Rattle.command_answers.specs.declared.fault.Refusal.TheVariants as refusals
-use Rattle.program_texts.specs.Clean.{ComputesOn}
+use Rattle.program_texts.specs.Clean.{AddsOn}
 use Rattle.program_commands.specs.Clean.{MeansCompiledIn}
 use Rattle.program_commands.specs.Compile.{AreWrittenFor, HasFewToffoliGates, HasLeanSize, HasSmallDepth, IsCompiled, LeanRowFits, ShallowRowFits, budget_of, least_lines, row_gates, row_lines}
 use Rattle.program_texts.specs.Settling.{LeavesTape, LeavesSettled, ForTexts, IsSettledWithin}
@@ -54,7 +54,7 @@ clean_plan plan text laid tape s b l is planned lines gates =
     record { tape = tape; tape_of = l.tape_of; graph = s; graph_of = is; plan = planned.is; some = omega arith; most_lines = lines; most_gates = gates }
 
 computes_on : (start : Start) (laid : LaidView) (p : ProgramView) (b : BudgetView) → IsCleanPlan start laid p b → (input rest : List Bool)
-    → IsInput p.params input → length rest ≡ b.borrow → ComputesOn p start (roles_of laid) laid.circuit.gates input rest
+    → IsInput p.params input → length rest ≡ b.borrow → AddsOn p start (roles_of laid) laid.circuit.gates input rest
 computes_on start laid p b c input rest size many = record {
   output = outputs_on c.tape input;
   is = tape_gives_output p.params p.body c.tape c.tape_of input size;

@@ -8,6 +8,7 @@ use Rattle.command_answers.specs.Outcomes.{Promise, budget_promise}
 use Rattle.command_answers.specs.declared.fault.Fault.{Fault}
 use Rattle.circuit_plans.specs.declared.choice.Plan.TheVariants.{Auto}
 use Rattle.circuit_plans.specs.declared.roles.Roles.{Roles}
+use Rattle.circuit_plans.specs.declared.roles.Placing.TheVariants.{Added}
 use Rattle.circuit_plans.specs.declared.roles.Start.TheVariants.{Zero}
 use Rattle.circuit_plans.specs.Plans.{AddsOutput, lines_in}
 use Rattle.mct_circuit.specs.Gates.{GateView, AreGatesOn, AreNarrow}
@@ -36,7 +37,7 @@ compile_order format = record {
   gates = USUAL_GATES;
   borrow = 0;
   nodes = USUAL_NODES;
-  outputs = Zero;
+  outputs = Added Zero;
   way = Diagrams;
   format = format;
   from = formats.Real;

@@ -1,5 +1,6 @@
 -- What a clean file is, in each format.
 use Rattle.std.specs.Prelude.{ℕ, List}
+use Rattle.circuit_plans.specs.declared.roles.Placing.TheVariants.{Added}
 use Rattle.circuit_plans.specs.declared.roles.Roles.{Roles}
 use Rattle.circuit_plans.specs.declared.roles.Start.{Start}
 use Rattle.mct_circuit.specs.Gates.{GateView}
@@ -26,4 +27,4 @@ pub record IsClean (format : Format) (text : List ℕ) (p : ProgramView) (start 
   pub roles : Roles
   pub gates : List GateView
   pub meaning : MeansCompiledIn format text roles gates
-  pub circuit : IsCleanCircuit p start borrowed roles gates
+  pub circuit : IsCleanCircuit p (Added start) borrowed roles gates

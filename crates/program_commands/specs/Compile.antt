@@ -5,6 +5,7 @@ use Rattle.program_texts.specs.Refusals.{program_limit}
 use Rattle.claim_check.specs.Budgets.{Measures}
 use Rattle.claim_check.specs.Measures.{AreMeasuresOf, IsNoLarger}
 use Rattle.claim_check.specs.Settled.{SettledView, IsSettledOf}
+use Rattle.circuit_plans.specs.declared.roles.Placing.TheVariants.{Added}
 use Rattle.circuit_plans.specs.declared.roles.Roles.{Roles}
 use Rattle.circuit_plans.specs.Plans.{BudgetView, LaidView, lines_in, roles_of, start_of}
 use Rattle.mct_circuit.specs.Gates.{GateView}
@@ -108,7 +109,8 @@ pub record HasCircuit (order : OrderView) (text : List ℕ) (tape : TapeView) (r
     (gates : List GateView) : Type 0 where
   pub settled : LeavesSettled text order.nodes tape
   pub only : (p : ProgramView) → IsWellFormed text p → p ≡ settled.left.program
-  pub clean : IsCleanCircuit settled.left.program (start_of order.plan) order.borrow roles gates
+  pub clean : IsCleanCircuit settled.left.program (Added (start_of order.plan)) order.borrow roles
+      gates
   pub few_lines : lines_in roles ≤ order.lines
   pub few_gates : length gates ≤ order.gates
   pub planned : IsPlannedAs order tape roles gates
