@@ -352,8 +352,8 @@ outputs_grown v old new held outputs kept are = record {
 }
 
 -- there is a number of an output line for each output
-pub many_added : (v : ComparedView) (nodes : List Triple) (held : List ℕ) → IsAdded v.placing → AreNumbersOf (comparison v) nodes held (output_bits (comparison v))
-    → length held ≡ length v.graph.outputs
+pub many_added : (v : ComparedView) (nodes : List Triple) (held : List ℕ) → IsAdded v.placing
+    → AreNumbersOf (comparison v) nodes held (output_bits (comparison v)) → length held ≡ length v.graph.outputs
 many_added v nodes held is are =
     many_held (comparison v) nodes held are ∙ lines_added v.placing (inputs_in (comparison v)) (length v.graph.outputs) is
 

@@ -43,8 +43,8 @@ of_tape t = record {
   value = outputs_on t;
 }
 
--- a circuit, the program that it is to compute, where it puts the outputs, and how many of its lines
--- are borrowed
+-- a circuit, the program that it is to compute, where it puts the outputs, and how many of its
+-- lines are borrowed
 pub record Comparison : Type 0 where
   pub program : Specification
   pub circuit : CircuitView
@@ -87,8 +87,8 @@ roles_in q = record {
 }
 
 -- on every input, whatever the output lines hold that they may, and whatever the borrowed lines
--- hold, the circuit puts the program's outputs where they belong, and leaves all other lines as they
--- were, the work lines at 0
+-- hold, the circuit puts the program's outputs where they belong, and leaves all other lines as
+-- they were, the work lines at 0
 abbrev pub Agrees : Comparison → Type 0
 Agrees q = PlacesOutputs q.placing (roles_in q) q.circuit.gates q.program.value
 

@@ -97,8 +97,8 @@ verify_fault (dd.Memory _) = faults.Memory _
 
 -- ---- laws
 
--- a program does not have both few and enough outputs, a circuit that is verified differs nowhere and
--- has no wide gate, and what is named is the only one
+-- a program does not have both few and enough outputs, a circuit that is verified differs nowhere
+-- and has no wide gate, and what is named is the only one
 pub record EndsInOneWay (q : Comparison) : Type 0 where
   pub few_or_enough : HasFewOutputs q → HasEnoughOutputs q → ⊥
   pub no_gate : (gate : ℕ) → AreNarrow q.circuit.gates → IsFirstWide q.circuit.gates gate → ⊥

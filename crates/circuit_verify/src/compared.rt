@@ -61,8 +61,8 @@ impl<'s> Compared<'s> {
     /// # Errors
     ///
     /// In this order: `Outputs` exactly where the outputs are to be in place and are fewer than the
-    /// inputs, `Lines` exactly where there are too few lines, `Gate` exactly where a gate is no flip
-    /// with at most two controls, all positive.
+    /// inputs, `Lines` exactly where there are too few lines, `Gate` exactly where a gate is no
+    /// flip with at most two controls, all positive.
     pub fn of(
         graph: &'s Settled,
         params: &'s [u32],

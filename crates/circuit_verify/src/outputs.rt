@@ -1,4 +1,4 @@
-// The numbers of the input lines and the output lines, before the gates and as they should be behind.
+// The numbers of the input lines and the output lines, before the gates and as they should end.
 ghost use Rattle.std.specs.Prelude.{◌≡◌, ◌≤◌, ◌++◌, length, IfErr, IfOk};
 ghost use Rattle.claim_check.specs.Settled.{settled_outputs};
 ghost use Rattle.circuit_plans.specs.Plans.{added};

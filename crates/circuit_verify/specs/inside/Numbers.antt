@@ -110,8 +110,8 @@ IsAdded InPlace = ⊥
 abbrev pub first_ports : Comparison → List Bool → List Bool
 first_ports q bits = input_bits q bits ++ output_bits q bits
 
--- numbers of all lines: whatever those of the input lines and the output lines stand for, the others
--- stand for zeros on the work lines, and for what the borrowed lines hold
+-- numbers of all lines: whatever those of the input lines and the output lines stand for, the
+-- others stand for zeros on the work lines, and for what the borrowed lines hold
 pub record AreLaid (q : Comparison) (nodes : List Triple) (ports lines : List ℕ) : Type 0 where
   pub are : (value : List Bool → List Bool) → AreNumbersOf q nodes ports value
       → AreNumbersOf q nodes lines

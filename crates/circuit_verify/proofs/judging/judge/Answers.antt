@@ -48,8 +48,8 @@ pub returns-in_default-clause-verified : goal.returns-in_default-clause-verified
 returns-in_default-clause-verified c = record {
   comparable = c.variables.ensures.ready.comparable;
   agrees = agrees (comparison c.args.compared.now) c.args.diagram.now.nodes c.args.ends.now.now.items c.args.ends.now.want.items
-      (λ input. length-map c.args.compared.now.graph.outputs (settled_value c.args.compared.now.graph input)) c.variables.ensures.ready.comparable.outputs c.requires.ends
-      (sym c.deref.ensures.value ∙ c.in_default.ensures ∙ c.deref-2.ensures.value);
+      (λ input. length-map c.args.compared.now.graph.outputs (settled_value c.args.compared.now.graph input))
+      c.variables.ensures.ready.comparable.outputs c.requires.ends (sym c.deref.ensures.value ∙ c.in_default.ensures ∙ c.deref-2.ensures.value);
 }
 
 pub index-requires-2 : goal.index-requires-2

@@ -8,11 +8,11 @@ split_at-requires c = omega (arith, c.inputs.ensures, many_bits (comparison c.ar
 
 pub held_numbers-requires : goal.held_numbers-requires
 held_numbers-requires c =
-    held_inside c.args.compared.now c.args.diagram.now.nodes c.args.bits.now c.split_at.result.1.now c.placing.result c.output_lines-lines.result c.inputs.result
-    c.placing.ensures c.output_lines-lines.ensures c.inputs.ensures c.split_at.ensures.back c.requires
+    held_inside c.args.compared.now c.args.diagram.now.nodes c.args.bits.now c.split_at.result.1.now c.placing.result c.output_lines-lines.result
+    c.inputs.result c.placing.ensures c.output_lines-lines.ensures c.inputs.ensures c.split_at.ensures.back c.requires
 
 pub returns : goal.returns
 returns c =
     held_found c.args.compared.now c.args.diagram.now.nodes c.args.bits.now c.split_at.result.1.now c.in_ok-held.held.items c.placing.result
-    c.output_lines-lines.result c.inputs.result c.truth-never.result c.placing.ensures c.output_lines-lines.ensures c.inputs.ensures c.split_at.ensures.back c.in_ok-held.ensures
-    c.requires c.truth-never.ensures.stands
+    c.output_lines-lines.result c.inputs.result c.truth-never.result c.placing.ensures c.output_lines-lines.ensures c.inputs.ensures
+    c.split_at.ensures.back c.in_ok-held.ensures c.requires c.truth-never.ensures.stands

@@ -34,5 +34,5 @@ returns-clause-wanted c =
     get_or_read outputs (line - c.inputs-inputs.result) c.index-outputs-line.result (omega (arith, low, here, c.requires.outputs.one_each))
     c.index-outputs-line.is no_form
     ∙ ap (form_at outputs) here in
-    wanted_as_sum v c.args.products.now outputs line c.in_ok-start.start c.in_ok-sum.field-0 c.requires.placing late low c.in_ok-start.ensures c.requires.outputs
-    (subst (λ (g : FormView). IsSum c.in_ok-start.start g c.in_ok-sum.field-0) read c.in_ok-sum.ensures.sum)
+    wanted_as_sum v c.args.products.now outputs line c.in_ok-start.start c.in_ok-sum.field-0 c.requires.placing late low c.in_ok-start.ensures
+    c.requires.outputs (subst (λ (g : FormView). IsSum c.in_ok-start.start g c.in_ok-sum.field-0) read c.in_ok-sum.ensures.sum)
