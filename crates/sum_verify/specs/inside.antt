@@ -1,4 +1,5 @@
 -- What only private contracts and proofs cite.
 pub mod Forms
 pub mod Nodes
+pub mod Rewritten
 pub mod Faults

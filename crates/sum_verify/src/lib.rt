@@ -10,6 +10,7 @@ mod fault;
 mod judging;
 mod nodes;
 mod outputs;
+mod rewritten;
 mod start;
 mod verifying;
 mod walking;

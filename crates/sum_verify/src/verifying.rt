@@ -1,19 +1,21 @@
 // A circuit against a settled graph.
-ghost use Rattle.std.specs.Prelude.{◌≡◌, IfErr, OnOk};
+ghost use Rattle.std.specs.Prelude.{◌≡◌, IfErr, IfSome, OnOk};
 ghost use Rattle.circuit_verify.specs.Compared.{comparison};
 ghost use Rattle.circuit_verify.specs.Verdicts.{IsVerified};
 ghost use Rattle.sum_verify.specs.Faults.{IsSumsFault};
+ghost use Rattle.sum_verify.specs.inside.Rewritten.{HasOutputsOf};
 
 use crate::SumsFault;
 use crate::fault::FormsFault;
 use crate::judging::judge;
-use crate::outputs::output_forms;
+use crate::rewritten::{output_forms_by, rewritten};
 use crate::start::start_forms;
 use crate::walking::walk;
 use circuit_verify::Compared;
 use cut_sweeping::{Reach, Sweep};
 use std::alloc::Global;
 use std::marker::Model;
+use sum_graph::SumGraph;
 
 /// A comparison that sums leave unsettled. [`verify`] and [`verify_by_cuts`] alone make one, so who
 /// has one asked them of this very comparison.
@@ -59,8 +61,8 @@ pub fn verify(alloc: Global, compared: Compared<'_>) -> Result<(), SumsFault<'_>
     verify_within(alloc, compared, Reach::Products)
 }
 
-/// The same for a comparison that was left unsettled: all is done again with cuts, by
-/// `cut_sweeping`.
+/// The same for a comparison that was left unsettled: all is done again with a graph of sums of the
+/// same outputs and of fewer products, by `few_products`, and then with cuts, by `cut_sweeping`.
 ///
 /// # Errors
 ///
@@ -77,20 +79,54 @@ fn verify_within(alloc: Global, compared: Compared<'_>, reach: Reach) -> Result<
     ensures unsettled { IfErr result (IsSumsFault compared.entry) }
 {
     let _ = compared.variables(); // shows what is known of both
-    match verify_forms(alloc, &compared, reach) {
+    match verify_by_reach(alloc, &compared, reach) {
         Ok(()) => Ok(()),
         Err(FormsFault::Unsettled) => Err(SumsFault::Unsettled(Unsettled { compared })),
         Err(FormsFault::Memory(memory)) => Err(SumsFault::Memory(memory)),
     }
 }
 
-// The circuit is verified, where the forms of its lines tell.
-fn verify_forms(alloc: Global, compared: &Compared, reach: Reach) -> Result<(), FormsFault>
+// The circuit is verified, where the forms of its lines tell: cuts are asked behind a graph with
+// fewer products.
+fn verify_by_reach(alloc: Global, compared: &Compared, reach: Reach) -> Result<(), FormsFault>
+    ensures { OnOk result (IsVerified (comparison compared.now)) }
+{
+    match reach {
+        Reach::Products => verify_forms(alloc, compared, Reach::Products, None),
+        Reach::Cuts => verify_further(alloc, compared),
+    }
+}
+
+fn verify_further(alloc: Global, compared: &Compared) -> Result<(), FormsFault>
+    ensures { OnOk result (IsVerified (comparison compared.now)) }
+{
+    match verify_rewritten(alloc, compared) {
+        Err(FormsFault::Unsettled) => verify_forms(alloc, compared, Reach::Cuts, None),
+        told => told,
+    }
+}
+
+fn verify_rewritten(alloc: Global, compared: &Compared) -> Result<(), FormsFault>
+    ensures { OnOk result (IsVerified (comparison compared.now)) }
+{
+    match rewritten(alloc, compared.graph)? {
+        Some(graph) => verify_forms(alloc, compared, Reach::Products, Some(&graph)),
+        None => Err(FormsFault::Unsettled),
+    }
+}
+
+fn verify_forms(
+    alloc: Global,
+    compared: &Compared,
+    reach: Reach,
+    graph: Option<&SumGraph>,
+) -> Result<(), FormsFault>
+    requires { IfSome graph (λ graph. HasOutputsOf compared.now.graph graph.now) }
     ensures { OnOk result (IsVerified (comparison compared.now)) }
 {
     let mut products = Sweep::new(alloc, compared.variables(), reach);
     let mut lines = start_forms(alloc, compared)?;
-    let outputs = output_forms(alloc, &mut products, compared, &lines)?;
+    let outputs = output_forms_by(alloc, &mut products, compared, &lines, graph)?;
     products.limit_atoms();
     walk(&mut products, compared, &mut lines)?;
     judge(alloc, &mut products, compared, &outputs, &lines)

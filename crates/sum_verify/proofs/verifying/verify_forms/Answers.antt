@@ -11,8 +11,8 @@ use Rattle.sum_verify.proofs.FormLemmas.{forms_later}
 use Rattle.sum_verify.proofs.StartLemmas.{starts_stand}
 use Rattle.sum_verify.proofs.verifying.verify_forms.Goals as goal
 
-pub output_forms-requires-clause-lines : goal.output_forms-requires-clause-lines
-output_forms-requires-clause-lines c =
+pub output_forms_by-requires-clause-lines : goal.output_forms_by-requires-clause-lines
+output_forms_by-requires-clause-lines c =
     rw c.deref.ensures.value
     (starts_stand (comparison c.args.compared.now) c.new-products.result c.in_ok-lines.lines.items c.variables.ensures.ready.comparable.lines
     c.in_ok-lines.ensures)
@@ -29,7 +29,7 @@ judge-requires-clause-outputs c =
     let q = comparison v in
     let more = subst (λ (t : ProductsView). Extends t c.walk.new.products) c.limit_atoms.ensures c.in_ok-walk.ensures.extends in
     rw c.deref-2.ensures.value
-    (forms_later q c.output_forms.new.products c.walk.new.products (length v.graph.outputs) c.in_ok-outputs.outputs.items
+    (forms_later q c.output_forms_by.new.products c.walk.new.products (length v.graph.outputs) c.in_ok-outputs.outputs.items
     (λ bits. settled_outputs v.graph (input_bits q bits)) more c.in_ok-outputs.ensures.outputs)
 
 pub judge-requires-clause-lines : goal.judge-requires-clause-lines
