@@ -40,6 +40,9 @@ const MOST_OWN: usize = 8;
 // Where so many products were gone over and none was gained, nothing is looked for any more.
 const FRUITLESS: usize = 2_000;
 
+/// So many products are more than are gone over once more where that gained nothing.
+pub const FEW_PRODUCTS: usize = 1_000;
+
 /// The search, and the units that it may spend.
 #[derive(Clone, Copy)]
 pub struct Search {
@@ -58,13 +61,14 @@ pub fn settle(graph: &mut Graph, work: &mut Work, order: Order, most_units: u64)
     };
     let mut had_gain = true;
     let mut before = graph.count();
-    for _ in 0..MOST_PASSES {
+    for number in 0..MOST_PASSES {
         let simpler = pass(graph, work, search);
         clean(graph, work);
         let now = graph.count();
         let gains = before.saturating_sub(now).saturating_mul(LEAST_GAIN) > now;
+        let is_fruitless = number == 0 && now >= before && now > FEW_PRODUCTS;
         before = now;
-        if work.is_stopped() || work.spent() > most_units {
+        if is_fruitless || work.is_stopped() || work.spent() > most_units {
             return;
         }
         if gains {

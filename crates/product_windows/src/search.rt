@@ -1,7 +1,7 @@
 // The search from both sides.
 use crate::cleaning::clean;
 use crate::graph::Graph;
-use crate::passes::{Order, settle};
+use crate::passes::{FEW_PRODUCTS, Order, settle};
 use crate::steps::{Proposal, Sums};
 use crate::sums::SymbolSum;
 use plan_tools::{Stop, Work};
@@ -18,33 +18,62 @@ const MOST_TURNS: usize = 6;
 // A turn gains where it takes away more than one product in so many.
 const LEAST_GAIN: usize = 50;
 
-// So many products are more than are gone over a second time where the first time gains nothing.
-const FEW_PRODUCTS: usize = 1_000;
-
 /// Steps that leave a graph of sums with fewer products, so far as some are found: from the inputs,
 /// and from the outputs, each in turns with the other, as long as that gains.
 ///
 /// # Errors
 ///
-/// `Memory` where memory is refused. No clause says so.
+/// `GaveUp` where there are many products and none is gained, and `Memory` where memory is refused.
+/// No clause says so.
 pub fn propose(alloc: Global, sums: &Sums) -> Result<Proposal, Stop> {
     let mut work = Work::new(alloc, u64::MAX);
     let begun = Graph::of(&mut work, sums);
     let mut first = begun.copy(&mut work);
-    let before = count_of(&sums.nodes).saturating_add(count_of(&sums.outputs));
-    let most = UNITS_A_PRODUCT
-        .saturating_mul(before as u64)
-        .saturating_add(MOST_UNITS);
-    let forth = best_from(&mut first, &mut work, Order::Forth, most);
-    if forth.products >= before && before > FEW_PRODUCTS {
+    let bounds = Bounds::of(sums);
+    let forth = best_from(&mut first, &mut work, Order::Forth, bounds);
+    if forth.products >= bounds.products && bounds.are_many() {
+        work.finish(())?;
+        return Err(Stop::GaveUp);
+    }
+    if bounds.is_fruitless(forth.products) {
         return work.finish(first.into_proposal(forth.steps));
     }
     let mut second = begun;
-    let back = best_from(&mut second, &mut work, Order::Back, most);
+    let back = best_from(&mut second, &mut work, Order::Back, bounds);
     if back.products < forth.products {
         work.finish(second.into_proposal(back.steps))
     } else {
         work.finish(first.into_proposal(forth.steps))
+    }
+}
+
+// How many products there were before anything was done, and the units that may be spent.
+#[derive(Clone, Copy)]
+struct Bounds {
+    products: usize,
+    units: u64,
+}
+
+impl Bounds {
+    fn of(sums: &Sums) -> Bounds {
+        let products = count_of(&sums.nodes).saturating_add(count_of(&sums.outputs));
+        Bounds {
+            products,
+            units: UNITS_A_PRODUCT
+                .saturating_mul(products as u64)
+                .saturating_add(MOST_UNITS),
+        }
+    }
+
+    // Whether there are more products than are gone over in vain.
+    fn are_many(self) -> bool {
+        self.products > FEW_PRODUCTS
+    }
+
+    // Whether little was gained, where there is too much to be gone over once more.
+    fn is_fruitless(self, now: usize) -> bool {
+        let most = self.products.saturating_mul(LEAST_GAIN - 1);
+        self.are_many() && now.saturating_mul(LEAST_GAIN) > most
     }
 }
 
@@ -63,7 +92,7 @@ struct Best {
     steps: usize,
 }
 
-fn best_from(graph: &mut Graph, work: &mut Work, start: Order, most: u64) -> Best {
+fn best_from(graph: &mut Graph, work: &mut Work, start: Order, bounds: Bounds) -> Best {
     clean(graph, work);
     let mut best = Best {
         products: graph.count(),
@@ -72,7 +101,7 @@ fn best_from(graph: &mut Graph, work: &mut Work, start: Order, most: u64) -> Bes
     let mut order = start;
     let mut last = usize::MAX;
     for _ in 0..MOST_TURNS {
-        settle(graph, work, order, most);
+        settle(graph, work, order, bounds.units);
         let now = graph.count();
         if now < best.products {
             best = Best {
@@ -82,10 +111,10 @@ fn best_from(graph: &mut Graph, work: &mut Work, start: Order, most: u64) -> Bes
         }
         let is_first = last == usize::MAX;
         let gains = now.saturating_mul(LEAST_GAIN) <= last.saturating_mul(LEAST_GAIN - 1);
-        if now >= last || now == 0 || work.is_stopped() || work.spent() > most {
+        if now >= last || now == 0 || work.is_stopped() || work.spent() > bounds.units {
             break;
         }
-        if !is_first && !gains {
+        if bounds.is_fruitless(now) || !is_first && !gains {
             break;
         }
         last = now;
