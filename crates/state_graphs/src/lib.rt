@@ -2,6 +2,8 @@
 //! graph of sums in an order of their own, and everything else as sums of these.
 #![tactic(auto)]
 
+mod below;
 mod graph;
 
+pub use below::Below;
 pub use graph::{StateGraph, StateNode, StateOutput};
