@@ -1,6 +1,6 @@
 // How many nodes are wanted for each symbol.
 use plan_tools::{Table, Work, number};
-use state_graphs::{StateGraph, StateNode};
+use state_graphs::{Below, StateGraph};
 
 /// How many nodes are looked for at once.
 const AT_ONCE: usize = 64;
@@ -13,8 +13,9 @@ const PER_UNIT: usize = 8;
 pub fn weights_of(work: &mut Work, graph: &StateGraph) -> Table<u32> {
     let inputs = graph.inputs as usize;
     let mut weights = Table::new(work, graph.symbols(), 0);
+    let below = Below::of(work, graph);
     for first in (0..graph.nodes.len()).step_by(AT_ONCE) {
-        let masks = masks_from(work, graph, first);
+        let masks = masks_from(work, &below, first);
         let from = inputs.saturating_add(first);
         add_counts(&masks, number(from), &mut weights);
         work.spend((masks.len() / PER_UNIT) as u64);
@@ -26,19 +27,19 @@ pub fn weights_of(work: &mut Work, graph: &StateGraph) -> Table<u32> {
 }
 
 // Of each node from the first of these on a mask of those of them that are wanted for it.
-fn masks_from(work: &mut Work, graph: &StateGraph, first: usize) -> Vec<u64> {
+fn masks_from(work: &mut Work, below: &Below, first: usize) -> Vec<u64> {
     let mut masks: Vec<u64> = Vec::new(work.alloc);
-    for (place, node) in graph.nodes.iter().enumerate().skip(first) {
-        let mask = mask_of(node, place, &masks, first);
+    for place in first..below.nodes() {
+        let mask = own_mask(place, first) | mask_below(below.list(place), &masks, first);
         work.push(&mut masks, mask);
     }
     masks
 }
 
-fn mask_of(node: &StateNode, place: usize, masks: &[u64], first: usize) -> u64 {
-    let mut mask = own_mask(place, first);
-    for below in &node.below {
-        mask |= mask_at(masks, *below as usize, first);
+fn mask_below(below: &[u32], masks: &[u64], first: usize) -> u64 {
+    let mut mask = 0;
+    for place in below {
+        mask |= mask_at(masks, *place as usize, first);
     }
     mask
 }
