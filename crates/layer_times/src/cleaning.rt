@@ -6,12 +6,14 @@ use plan_tools::{Table, Work};
 /// The time of a node that is not cleared before the end.
 pub const NEVER: u32 = u32::MAX;
 
-/// How much is cleared before the end: of each node its part, and how many of the first parts are
-/// cleaned.
+/// How much is cleared before the end: of each node its part, how many of the first parts are
+/// cleaned, and how many symbols a node without a product has at most in which others are written
+/// out.
 #[derive(Clone, Copy)]
 pub struct Plan<'p> {
     pub parts: &'p Table<u32>,
     pub cleaned: u32,
+    pub left: usize,
 }
 
 /// When nodes are cleared.
@@ -44,9 +46,7 @@ pub struct Left {
     pub names: Vec<u32>,
 }
 
-// The most symbols in which nodes are written out, and the most nodes that are.
-const MOST_LEFT: usize = 8;
-
+// The most nodes that are written out in one.
 const MOST_NAMES: usize = 32;
 
 // What is kept up to the end.
@@ -54,7 +54,7 @@ const MOST_NAMES: usize = 32;
 struct Cleaning<'p> {
     graph: &'p LayerGraph,
     times: &'p Times,
-    parts: &'p Table<u32>,
+    plan: Plan<'p>,
     are_kept: Table<bool>,
     /// Of each node the time at which it is cleared: its layer, or its boundary where it has no
     /// product.
@@ -68,11 +68,11 @@ pub fn clearing_of(work: &mut Work, graph: &LayerGraph, times: &Times, plan: Pla
     let mut cleaning = Cleaning {
         graph,
         times,
-        parts: plan.parts,
+        plan,
         are_kept: Table::of(Vec::new(work.alloc), true),
         off: Table::new(work, graph.nodes.len(), 0),
     };
-    cleaning.keep_late(work, plan.cleaned);
+    cleaning.keep_late(work);
     cleaning.keep_across();
     cleaning.keep_outputs();
     cleaning.wait_for_outputs();
@@ -86,9 +86,10 @@ pub fn clearing_of(work: &mut Work, graph: &LayerGraph, times: &Times, plan: Pla
 
 impl Cleaning<'_> {
     // Keeps the nodes of parts that are not cleaned.
-    fn keep_late(&mut self, work: &mut Work, cleaned: u32) {
+    fn keep_late(&mut self, work: &mut Work) {
+        let Plan { parts, cleaned, .. } = self.plan;
         for place in 0..self.graph.count() {
-            let is_kept = self.parts.get(place) >= cleaned;
+            let is_kept = parts.get(place) >= cleaned;
             self.are_kept.push(work, is_kept);
         }
     }
@@ -103,7 +104,7 @@ impl Cleaning<'_> {
     }
 
     fn keep_operands(&mut self, place: u32, node: &Node) {
-        let part = self.parts.get(place);
+        let part = self.plan.parts.get(place);
         if let Some(factors) = &node.factors {
             self.keep_before(&factors.first, part);
             self.keep_before(&factors.second, part);
@@ -117,7 +118,7 @@ impl Cleaning<'_> {
     fn keep_before(&mut self, symbols: &[u32], part: u32) {
         for symbol in symbols {
             if let Some(place) = self.graph.place(*symbol)
-                && self.parts.get(place) < part
+                && self.plan.parts.get(place) < part
             {
                 self.are_kept.set(place, true);
             }
@@ -137,7 +138,7 @@ impl Cleaning<'_> {
         let mut part = 0;
         for symbol in symbols {
             if let Some(place) = self.graph.place(*symbol) {
-                part = self.parts.get(place).max(part);
+                part = self.plan.parts.get(place).max(part);
             }
         }
         part
@@ -185,7 +186,7 @@ impl Cleaning<'_> {
             left.names = work.copy(&[place]);
             self.write_out(work, node, lefts, &mut left);
         }
-        if left.bits.len() > MOST_LEFT || left.names.len() > MOST_NAMES {
+        if left.bits.len() > self.plan.left || left.names.len() > MOST_NAMES {
             left.names.clear();
         }
         left

@@ -15,6 +15,11 @@ const COUNTS: [u32; 17] = [
 // In how many parts nodes may be made at a time, where lines are short.
 const WINDOWS: [u32; 3] = [1_000, 2, 1];
 
+// In how many symbols nodes without a product are written out, at first, and where that is better.
+const LEFT: usize = 8;
+
+const MORE_LEFT: usize = 16;
+
 // How often half of the parts that may be cleaned are left out.
 const HALVINGS: u32 = 7;
 
@@ -26,13 +31,14 @@ pub struct Timetable {
     pub demand: Demand,
 }
 
-// How many parts there are, how many of them are cleaned, and in how many nodes are made at a time;
-// none where nodes are made at their latest times.
+// How many parts there are, how many of them are cleaned, and in how many nodes are made at a time,
+// none where nodes are made at their latest times; and in how many symbols they are written out.
 #[derive(Clone, Copy)]
 struct Choice {
     count: u32,
     cleaned: u32,
     window: Option<u32>,
+    left: usize,
 }
 
 // A choice, and what its plan comes to.
@@ -85,13 +91,14 @@ impl Search<'_> {
             count: 1,
             cleaned: 0,
             window: None,
+            left: LEFT,
         };
-        if self.fits(work, whole) {
-            return;
+        if !self.fits(work, whole) {
+            self.try_counts(work);
+            self.try_windows(work);
+            self.clean_less(work, LEFT);
         }
-        self.try_counts(work);
-        self.try_windows(work);
-        self.clean_less(work);
+        self.leave_more(work);
     }
 
     fn try_counts(&mut self, work: &mut Work) {
@@ -113,6 +120,7 @@ impl Search<'_> {
                 count,
                 cleaned: count.saturating_sub(kept),
                 window: None,
+                left: LEFT,
             };
             let _fits = self.fits(work, choice);
         }
@@ -135,16 +143,28 @@ impl Search<'_> {
                 count,
                 cleaned: count.saturating_sub(kept),
                 window: Some(window),
+                left: LEFT,
             };
             let _fits = self.fits(work, choice);
         }
     }
 
-    // Cleans as few parts of the best choice as can be.
-    fn clean_less(&mut self, work: &mut Work) {
+    // Writes nodes out in more symbols than the best choice has it.
+    fn leave_more(&mut self, work: &mut Work) {
+        if let Some(Found { choice, .. }) = self.best {
+            let left = MORE_LEFT;
+            let _fits = self.fits(work, Choice { left, ..choice });
+            self.clean_less(work, left);
+        }
+    }
+
+    // Cleans as few parts of the best choice as can be, where nodes are written out in so many
+    // symbols.
+    fn clean_less(&mut self, work: &mut Work, left: usize) {
         let Some(Found { choice, .. }) = self.best else {
             return;
         };
+        let choice = Choice { left, ..choice };
         let (mut low, mut high) = (0_u32, choice.cleaned);
         for _ in 0..HALVINGS {
             let cleaned = low.midpoint(high);
@@ -185,6 +205,7 @@ impl Search<'_> {
         let plan = Plan {
             parts: &parts,
             cleaned: choice.cleaned,
+            left: choice.left,
         };
         let mut clearing = clearing_of(work, self.graph, self.times, plan);
         let times = match choice.window {
