@@ -7,10 +7,10 @@ ghost use Rattle.few_products.specs.inside.Definitions.{AreBegun, AreDefinitions
 
 use crate::symbols::sum_of;
 use dependency_graph::Base;
-use product_windows::SymbolSum;
 use revc_base::Memory;
 use std::alloc::Global;
 use sum_graph::SumGraph;
+use symbol_graphs::SymbolSum;
 use wide_sums::{WideProduct, WideSum};
 
 /// The sums of the nodes, of the outputs as nodes behind them, and of more nodes; none where one of

@@ -11,10 +11,11 @@ use crate::replay::replay;
 use crate::symbols::sums_of;
 use crate::writing::{nodes_in_order, outputs_from};
 use plan_tools::Stop;
-use product_windows::{Proposal, propose};
+use product_windows::propose;
 use revc_base::Memory;
 use std::alloc::Global;
 use sum_graph::SumGraph;
+use symbol_graphs::Proposal;
 use wide_sums::WideSum;
 
 /// A graph of sums with the values of this one and with fewer products, so far as a search finds

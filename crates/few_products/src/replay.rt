@@ -5,9 +5,9 @@ ghost use Rattle.few_products.specs.inside.Definitions.{AreKept};
 
 use crate::symbols::{sum_of, window_of};
 use dependency_graph::Base;
-use product_windows::Step;
 use revc_base::Memory;
 use std::alloc::Global;
+use symbol_graphs::Step;
 use wide_sums::{WideSum, Window, vanishes};
 
 /// Does the steps, of which each that is not found to keep the values of nodes does nothing.

@@ -1,10 +1,10 @@
 // Sums of bits as sums of symbols, and proposed ones as sums of bits.
 use bit_sums::{Product, Sum};
 use dependency_graph::Base;
-use product_windows::{Opened, Sums, SymbolProduct, SymbolSum};
 use revc_base::Memory;
 use std::alloc::Global;
 use sum_graph::SumGraph;
+use symbol_graphs::{Opened, Sums, SymbolProduct, SymbolSum};
 use wide_sums::{WideProduct, WideSum, Window};
 
 /// A graph over symbols.

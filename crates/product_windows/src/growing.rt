@@ -1,7 +1,7 @@
 // How windows grow: node by node where few more sums come of it, and by nodes beside the target.
-use crate::graph::Graph;
 use crate::windows::{Target, Window, has_symbol};
 use plan_tools::Work;
+use symbol_graphs::Graph;
 
 // The most nodes that are opened, the most of them without products, and how many are tried for
 // each.

@@ -1,9 +1,8 @@
 // What there is in a window once the nodes that go are gone, and by which symbols it is called.
-use crate::graph::Graph;
-use crate::spans::{ONE, Span, VARIABLES, has, mask_of, word_of};
-use crate::sums::{Affine, SymbolSum};
 use crate::windows::{Known, Window};
 use plan_tools::Work;
+use symbol_graphs::{Affine, Graph, SymbolSum};
+use window_programs::{ONE, Span, VARIABLES, has, mask_of, word_of};
 
 // The most words that there are.
 const MOST_WORDS: usize = 13;

@@ -1,10 +1,9 @@
 // Passes over all nodes, until none gains.
-use crate::cleaning::clean;
-use crate::graph::{GONE, Graph};
 use crate::growing::grown;
 use crate::rewriting::{Gain, rewrite};
 use crate::windows::{RANK, Target, Window};
 use plan_tools::Work;
+use symbol_graphs::{GONE, Graph, clean};
 
 /// In which order nodes are gone over.
 #[derive(Clone, Copy, PartialEq, Eq)]

@@ -1,13 +1,10 @@
 // A target rewritten with fewer products, or with a product of fewer symbols.
-use crate::graph::Graph;
 use crate::naming::Names;
-use crate::programs::{Program, program_for};
 use crate::simpler::simpler;
-use crate::spans::{ONE, bit, has, mask_of};
-use crate::steps::{Opened, Step};
-use crate::sums::{Affine, SymbolProduct, SymbolSum};
 use crate::windows::{Target, Window};
 use plan_tools::Work;
+use symbol_graphs::{Affine, Graph, Opened, Step, SymbolProduct, SymbolSum};
+use window_programs::{ONE, Program, bit, has, mask_of, program_for};
 
 /// What a rewriting gained.
 #[derive(Clone, Copy)]

@@ -1,11 +1,8 @@
 // The search from both sides.
-use crate::cleaning::clean;
-use crate::graph::Graph;
 use crate::passes::{FEW_PRODUCTS, Order, settle};
-use crate::steps::{Proposal, Sums};
-use crate::sums::SymbolSum;
 use plan_tools::{Stop, Work};
 use std::alloc::Global;
+use symbol_graphs::{Graph, Proposal, Sums, SymbolSum, clean};
 
 // The most units that are spent, and how many more for each product. A unit is some 80 ns.
 const MOST_UNITS: u64 = 100_000_000;

@@ -1,8 +1,7 @@
 // One product of few symbols.
 use crate::naming::Names;
-use crate::programs::Program;
-use crate::spans::{Span, bit, mask_of};
 use plan_tools::Work;
+use window_programs::{Program, Span, bit, mask_of};
 
 // What a test of two factors costs.
 const TEST_UNITS: u64 = 5;

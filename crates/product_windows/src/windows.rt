@@ -1,8 +1,7 @@
 // Windows: nodes below a target that are written out over at most six independent sums of symbols.
-use crate::graph::Graph;
-use crate::spans::VARIABLES;
-use crate::sums::{SymbolProduct, SymbolSum};
 use plan_tools::Work;
+use symbol_graphs::{Graph, SymbolProduct, SymbolSum};
+use window_programs::VARIABLES;
 
 /// The most sums of symbols that a window is written out over.
 pub const RANK: usize = 6;
