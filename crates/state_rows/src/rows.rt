@@ -62,6 +62,12 @@ pub struct StateRows {
     next: Row,
     /// The changes of rows since the last call of `mark`.
     changes: Option<Vec<Change>>,
+    /// Of each row when it changed last, counted in changes.
+    moments: Table<u64>,
+    now: u64,
+    /// The rows of the state that changed since the last call of `take_changed`.
+    changed: Vec<Row>,
+    is_changed: Table<bool>,
     pub steps: Vec<Step>,
 }
 
@@ -75,6 +81,10 @@ impl StateRows {
             layers: Table::of(Vec::new(work.alloc), Layer::State),
             next: 0,
             changes: None,
+            moments: Table::of(Vec::new(work.alloc), 0),
+            now: 0,
+            changed: Vec::new(work.alloc),
+            is_changed: Table::of(Vec::new(work.alloc), false),
             steps: Vec::new(work.alloc),
         }
     }
@@ -124,25 +134,51 @@ impl StateRows {
         layer == Layer::State || self.layer(row) == Layer::Beneath
     }
 
+    // The row that has the head of a vector, if a layer may read it.
+    fn rival(&self, vector: &[u32], layer: Layer) -> Option<Row> {
+        let row = self.echelon.rival(vector)?;
+        if self.is_read_by(row, layer) {
+            Some(row)
+        } else {
+            None
+        }
+    }
+
     /// Adds rows that a layer may read to a vector until its greatest symbol is no such row's head.
     pub fn reduce(&self, work: &mut Work, vector: &[u32], layer: Layer) -> Reduced {
         let mut left = work.copy(vector);
         let mut rows = Vec::new(work.alloc);
         for _ in 0..self.symbols() {
-            match self.echelon.rival(&left) {
-                Some(row) if self.is_read_by(row, layer) => {
-                    work.push(&mut rows, row);
-                    left = self.echelon.plus(work, &left, row);
-                }
-                _ => break,
-            }
+            let Some(row) = self.rival(&left, layer) else {
+                break;
+            };
+            work.push(&mut rows, row);
+            left = self.echelon.plus(work, &left, row);
         }
         Reduced { left, rows }
     }
 
+    /// What `reduce` leaves of a vector.
+    pub fn rest(&self, work: &mut Work, vector: &[u32], layer: Layer) -> Vec<u32> {
+        let mut left = work.copy(vector);
+        for _ in 0..self.symbols() {
+            let Some(row) = self.rival(&left, layer) else {
+                break;
+            };
+            left = self.echelon.plus(work, &left, row);
+        }
+        left
+    }
+
     /// Whether a vector is in the span of the rows that a layer may read.
     pub fn spans(&self, work: &mut Work, vector: &[u32], layer: Layer) -> bool {
-        self.reduce(work, vector, layer).left.is_empty()
+        match self.rival(vector, layer) {
+            Some(row) => {
+                let left = self.echelon.plus(work, vector, row);
+                left.is_empty() || self.rest(work, &left, layer).is_empty()
+            }
+            None => vector.is_empty(),
+        }
     }
 
     /// The rows that sum to a vector. The work gives up where it is not in their span.
@@ -160,6 +196,8 @@ impl StateRows {
         if row as usize >= self.echelon.made() {
             let _ = self.echelon.fresh(work);
             self.layers.push(work, layer);
+            self.moments.push(work, 0);
+            self.is_changed.push(work, false);
         }
         self.layers.set(row, layer);
         self.next = row.saturating_add(1);
@@ -168,7 +206,7 @@ impl StateRows {
 
     /// Takes a row out, and gives its vector.
     pub fn take(&mut self, work: &mut Work, row: Row) -> Vec<u32> {
-        let vector = self.echelon.take(work, row);
+        let vector = self.take_out(work, row);
         self.note_change(work, row, &vector);
         vector
     }
@@ -176,7 +214,41 @@ impl StateRows {
     /// Puts a vector into a row that is out. Its head is that of no other row.
     pub fn put(&mut self, work: &mut Work, row: Row, vector: Vec<u32>) {
         self.note_change(work, row, &[]);
+        self.put_in(work, row, vector);
+    }
+
+    fn take_out(&mut self, work: &mut Work, row: Row) -> Vec<u32> {
+        self.change(row);
+        self.echelon.take(work, row)
+    }
+
+    fn put_in(&mut self, work: &mut Work, row: Row, vector: Vec<u32>) {
+        self.change(row);
+        if self.layer(row) == Layer::State && !self.is_changed.get(row) {
+            self.is_changed.set(row, true);
+            work.push(&mut self.changed, row);
+        }
         self.echelon.put(work, row, vector);
+    }
+
+    fn change(&mut self, row: Row) {
+        self.now = self.now.saturating_add(1);
+        self.moments.set(row, self.now);
+    }
+
+    /// When a row changed last, counted in changes.
+    pub fn moment(&self, row: Row) -> u64 {
+        self.moments.get(row)
+    }
+
+    /// The rows of the state to which a vector came since the last such call. Some may be out
+    /// again, or beneath.
+    pub fn take_changed(&mut self, work: &Work) -> Vec<Row> {
+        let changed = work.take(&mut self.changed);
+        for row in &changed {
+            self.is_changed.set(*row, false);
+        }
+        changed
     }
 
     // Notes what a row holds before it changes, where changes are noted.
@@ -208,9 +280,9 @@ impl StateRows {
         };
         for Change { row, before } in changes.into_iter().rev() {
             if before.is_empty() {
-                let _ = self.echelon.take(work, row);
+                let _ = self.take_out(work, row);
             } else {
-                self.echelon.put(work, row, before);
+                self.put_in(work, row, before);
             }
         }
         self.steps.truncate(mark.steps);
