@@ -103,49 +103,32 @@ impl Sweeper<'_> {
 
     /// How much is needed beneath, where all nodes from a place on are behind.
     pub fn score(&mut self, behind: u32) -> Score {
-        let pivots = self
-            .by_weight
-            .pivots(&mut self.work, &self.rows, self.behind);
-        let wanted = self.wanted_beneath(behind);
+        self.renew_pivots();
+        self.work.spend(behind as u64);
         let mut score = Score {
             pivots: 0,
             nodes: 0,
         };
-        let mut symbol = self.graph.inputs;
-        for is_wanted in wanted.items() {
-            if *is_wanted {
+        let mut wanted = Table::new(&mut self.work, behind as usize, false);
+        let graph = self.graph;
+        for place in (0..behind).rev() {
+            let symbol = graph.symbol(place);
+            self.mark_row(symbol, &mut wanted);
+            if wanted.get(place) {
+                mark(self.below.list(place as usize), &mut wanted);
+                let is_pivot = self.by_weight.is_pivot(&self.pivots, symbol);
                 score.nodes = score.nodes.saturating_add(1);
-                let is_pivot = self.by_weight.is_pivot(&pivots, symbol);
                 score.pivots = score.pivots.saturating_add(u32::from(is_pivot));
             }
-            symbol = symbol.saturating_add(1);
         }
         score
     }
 
-    // Of each node below a place, whether it is wanted for a row beneath.
-    fn wanted_beneath(&mut self, behind: u32) -> Table<bool> {
-        let mut wanted = self.wanted_by_rows(behind);
-        for place in (0..behind).rev() {
-            if let Some(node) = self.graph.node(place)
-                && wanted.get(place)
-            {
-                mark(&node.below, &mut wanted);
-            }
+    // Notes the nodes of the row beneath that has this head, which all come before it.
+    fn mark_row(&self, symbol: u32, wanted: &mut Table<bool>) {
+        if let Some(row) = self.rows.in_layer(symbol, Layer::Beneath) {
+            self.mark_places(self.rows.vector(row), wanted);
         }
-        self.work.spend(behind as u64);
-        wanted
-    }
-
-    // Of each node below a place, whether a row beneath has its symbol.
-    fn wanted_by_rows(&mut self, behind: u32) -> Table<bool> {
-        let mut wanted = Table::new(&mut self.work, behind as usize, false);
-        for symbol in 0..self.behind {
-            if let Some(row) = self.rows.in_layer(symbol, Layer::Beneath) {
-                self.mark_places(self.rows.vector(row), &mut wanted);
-            }
-        }
-        wanted
     }
 
     fn mark_places(&self, vector: &[u32], wanted: &mut Table<bool>) {

@@ -1,10 +1,10 @@
 // The state solved for the symbols of greatest weight.
-use plan_tools::{Echelon, Table, Work, number};
+use plan_tools::{Echelon, Row, Table, Work, number};
 use state_graphs::StateGraph;
 use state_rows::{Layer, StateRows};
 
-/// How many symbols that are passed are a unit of work.
-const PER_UNIT: u32 = 16;
+/// How many rows that are passed are a unit of work.
+const PER_UNIT: usize = 16;
 
 /// The symbols in the order of their weights, the least first.
 #[derive(Drop)]
@@ -17,8 +17,16 @@ pub struct ByWeight {
 /// The rows of a state, each with another symbol of the greatest weight.
 #[derive(Drop)]
 pub struct Pivots {
-    /// Over the places of symbols.
+    /// Over the places of symbols: a row for each of `made`.
     rows: Echelon,
+    made: Vec<Made>,
+}
+
+// A row of the state, and when it changed last.
+#[derive(Clone, Copy)]
+struct Made {
+    row: Row,
+    moment: u64,
 }
 
 impl ByWeight {
@@ -45,24 +53,6 @@ impl ByWeight {
         }
         work.sort_falling(&mut places);
         places
-    }
-
-    /// The rows of the state with their pivots, where no row has this symbol or one behind it.
-    pub fn pivots(&self, work: &mut Work, rows: &StateRows, behind: u32) -> Pivots {
-        work.spend((behind / PER_UNIT) as u64);
-        let mut pivots = Pivots {
-            rows: Echelon::new(work, rows.symbols()),
-        };
-        for symbol in 0..behind {
-            if let Some(row) = rows.in_layer(symbol, Layer::State) {
-                let places = self.places(work, rows.vector(row));
-                pivots.put(work, &places);
-            }
-            if work.is_stopped() {
-                break;
-            }
-        }
-        pivots
     }
 
     /// Whether a symbol is a pivot.
@@ -93,11 +83,78 @@ impl ByWeight {
 }
 
 impl Pivots {
-    // Puts the row of a state.
-    fn put(&mut self, work: &mut Work, places: &[u32]) {
-        let reduced = self.rows.reduced(work, places);
-        let row = self.rows.fresh(work);
-        self.rows.put(work, row, reduced.left);
+    /// No rows, over so many symbols.
+    pub fn none(work: &mut Work, symbols: usize) -> Pivots {
+        Pivots {
+            rows: Echelon::new(work, symbols),
+            made: Vec::new(work.alloc),
+        }
+    }
+
+    /// Brings them up to date: what was made behind a row that changed is made anew, and last what
+    /// changed, so that rows which stay the same come first in time.
+    pub fn renew(&mut self, work: &mut Work, by_weight: &ByWeight, rows: &mut StateRows) {
+        work.spend((self.made.len() / PER_UNIT) as u64);
+        let kept = self.unchanged(rows);
+        let behind = self.drop_behind(work, kept);
+        for made in &behind {
+            if rows.moment(made.row) == made.moment {
+                self.put(work, by_weight, rows, made.row);
+            }
+        }
+        let changed = rows.take_changed(work);
+        self.put_changed(work, by_weight, rows, &changed);
+    }
+
+    // Puts those of some rows that are of the state and have a vector.
+    fn put_changed(
+        &mut self,
+        work: &mut Work,
+        by_weight: &ByWeight,
+        rows: &StateRows,
+        changed: &[Row],
+    ) {
+        for row in changed {
+            if rows.layer(*row) == Layer::State && !rows.vector(*row).is_empty() {
+                self.put(work, by_weight, rows, *row);
+            }
+        }
+    }
+
+    // How many of them were made before the first one that changed.
+    fn unchanged(&self, rows: &StateRows) -> usize {
+        let mut count: usize = 0;
+        for made in &self.made {
+            if rows.moment(made.row) != made.moment {
+                break;
+            }
+            count = count.saturating_add(1);
+        }
+        count
+    }
+
+    // Takes all but so many out.
+    fn drop_behind(&mut self, work: &mut Work, kept: usize) -> Vec<Made> {
+        let kept = kept.min(self.made.len());
+        let behind = work.copy(&self.made[kept..]);
+        self.made.truncate(kept);
+        for row in kept..kept.saturating_add(behind.len()) {
+            let _ = self.rows.take(work, number(row));
+        }
+        behind
+    }
+
+    // Puts a row of the state.
+    fn put(&mut self, work: &mut Work, by_weight: &ByWeight, rows: &StateRows, row: Row) {
+        let places = by_weight.places(work, rows.vector(row));
+        let reduced = self.rows.reduced(work, &places);
+        if self.made.len() >= self.rows.made() {
+            let _ = self.rows.fresh(work);
+        }
+        let place = number(self.made.len());
+        self.rows.put(work, place, reduced.left);
+        let moment = rows.moment(row);
+        work.push(&mut self.made, Made { row, moment });
     }
 }
 

@@ -104,8 +104,8 @@ impl Sweeper<'_> {
 
     // Whether what the state does not know of a vector lies before a range.
     fn is_before(&mut self, vector: &[u32], range: Range) -> bool {
-        let reduced = self.rows.reduce(&mut self.work, vector, Layer::State);
-        match reduced.left.first() {
+        let rest = self.rows.rest(&mut self.work, vector, Layer::State);
+        match rest.first() {
             Some(symbol) => *symbol < self.graph.symbol(range.from),
             None => true,
         }

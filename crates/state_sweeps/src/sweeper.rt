@@ -1,7 +1,7 @@
 // A sweep on its way, and what its turns share.
-use crate::pivots::ByWeight;
-use plan_tools::{Row, Work, number};
-use state_graphs::{StateGraph, StateNode};
+use crate::pivots::{ByWeight, Pivots};
+use plan_tools::{Row, Work};
+use state_graphs::{Below, StateGraph, StateNode};
 use state_rows::{Layer, Mark, Place, StateRows, Step};
 
 /// Up to how many rows the bits of a node are added to its line where it goes off.
@@ -50,10 +50,10 @@ impl Saved {
 #[derive(Drop)]
 pub struct Sweeper<'g> {
     pub graph: &'g StateGraph,
+    pub below: Below,
     pub work: Work,
     pub by_weight: ByWeight,
-    /// The symbol behind those that rows have.
-    pub behind: u32,
+    pub pivots: Pivots,
     pub rows: StateRows,
     pub counts: Counts,
     pub most: Most,
@@ -66,8 +66,9 @@ impl Sweeper<'_> {
     pub fn new(graph: &StateGraph, mut work: Work, margin: usize) -> Sweeper<'_> {
         Sweeper {
             graph,
+            below: Below::of(&mut work, graph),
             by_weight: ByWeight::of(&mut work, graph),
-            behind: number(graph.symbols()),
+            pivots: Pivots::none(&mut work, graph.symbols()),
             rows: StateRows::new(&mut work, graph.symbols(), margin),
             counts: Counts {
                 asked: 0,
@@ -109,14 +110,18 @@ impl Sweeper<'_> {
         if self.rows.spans(&mut self.work, vector, Layer::State) {
             return;
         }
-        let pivots = self
-            .by_weight
-            .pivots(&mut self.work, &self.rows, self.behind);
-        let unknown = self.by_weight.unknown(&mut self.work, &pivots, vector);
+        self.renew_pivots();
+        let unknown = self.by_weight.unknown(&mut self.work, &self.pivots, vector);
         if self.rows.insert(&mut self.work, &unknown) && self.graph.has_node(&unknown) {
             self.counts.asked = self.counts.asked.saturating_add(1);
             self.work.push(&mut self.requests, unknown);
         }
+    }
+
+    /// Brings the pivots of the state up to date.
+    pub fn renew_pivots(&mut self) {
+        self.pivots
+            .renew(&mut self.work, &self.by_weight, &mut self.rows);
     }
 
     /// The rows beneath are to know a vector.

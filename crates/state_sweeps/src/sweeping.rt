@@ -140,7 +140,6 @@ impl Sweeper<'_> {
                 cleaned: way.cleaned,
                 score,
             };
-            self.behind = graph.symbol(end);
             let Some(segment) = self.back_over_within(cuts) else {
                 break;
             };
