@@ -58,7 +58,7 @@ class Command(unittest.TestCase):
         self.assertIn(says, err)
 
     def test_files(self) -> None:
-        self.assertIn("30 lines (10 inputs, 4 outputs, 16 work)", self.gives("compile alu.py -o alu.qasm", ""))
+        self.assertIn("22 lines (10 inputs, 4 outputs, 8 work)", self.gives("compile alu.py -o alu.qasm", ""))
         self.gives("stat alu.qasm", "lines 30\n")
         self.gives("convert alu.qasm -o alu.real", "")
         self.assertTrue((self.room / "alu.real").read_text().startswith(".version"))
