@@ -126,7 +126,7 @@ class Circuits(unittest.TestCase):
 
     def test_pictures(self) -> None:
         circuit = small.compile()
-        root = ElementTree.fromstring(circuit.draw(columns=10))
+        root = ElementTree.fromstring(circuit.draw(columns=4))
         words = [each.text for each in root if each.tag.endswith("text")]
         for name in ("a[0]", "b[1]", "small 0", "w0 0"):
             self.assertIn(name, words)

@@ -58,8 +58,8 @@ class Command(unittest.TestCase):
         self.assertIn(says, err)
 
     def test_files(self) -> None:
-        self.assertIn("22 lines (10 inputs, 4 outputs, 8 work)", self.gives("compile alu.py -o alu.qasm", ""))
-        self.gives("stat alu.qasm", "lines 30\n")
+        self.assertIn("25 lines (10 inputs, 4 outputs, 11 work)", self.gives("compile alu.py -o alu.qasm", ""))
+        self.gives("stat alu.qasm", "lines 25\n")
         self.gives("convert alu.qasm -o alu.real", "")
         self.assertTrue((self.room / "alu.real").read_text().startswith(".version"))
         self.gives("text alu.py -o alu.revs", "")
@@ -70,7 +70,7 @@ class Command(unittest.TestCase):
         self.gives("check alu.revs", "claims 0")
         self.gives("run alu.py op=1 a=3 b=5", "out=14")
         self.gives("run alu.revs op=0 a=3 b=0x5", "out=8")
-        self.gives(f"run alu.real {'0' * 30}", "0" * 30)
+        self.gives(f"run alu.real {'0' * 25}", "0" * 25)
         self.gives("draw alu.real -o alu.svg", "")
         self.gives("draw alu.py --columns 20", "<svg")
         self.gives("costs alu.py --plan lean --points 1 -o alu.svg", "Toffoli")

@@ -61,11 +61,11 @@ def from_carry(s: U4, c: U1, carry: U1):
 
 # A function, its inverse, what it is on numbers, and the most Toffoli gates and lines.
 PAIRS: List[Tuple[Oracle, Oracle, Callable[..., int], int, int]] = [
-    (more, less, lambda x: (x + 1) % 16, 4, 11),
-    (added, taken, lambda a, b: a | (a + b) % 16 << 4, 12, 15),
-    (tripled, by_eleven, lambda x: 3 * x % 16, 12, 14),
-    (present, back, lambda x: PRESENT[x], 16, 16),
-    (with_carry, from_carry, lambda x, c: (x + c) % 16 | c << 4 | (x + c) // 16 << 5, 16, 18),
+    (more, less, lambda x: (x + 1) % 16, 6, 9),
+    (added, taken, lambda a, b: a | (a + b) % 16 << 4, 10, 14),
+    (tripled, by_eleven, lambda x: 3 * x % 16, 6, 8),
+    (present, back, lambda x: PRESENT[x], 16, 14),
+    (with_carry, from_carry, lambda x, c: (x + c) % 16 | c << 4 | (x + c) // 16 << 5, 12, 13),
 ]
 
 
