@@ -2,7 +2,7 @@
 use Rattle.std.specs.Prelude.{ℕ, ◌+◌, ◌*◌, ◌/◌, ◌%◌, Bool, List, [], ◌∷◌, cond, slice_index_or}
 use Rattle.linear_forms.specs.Pairs.{is_in}
 
--- the value in a row: bit b of word i is that of row 64 i + b
+-- the value in a row: a word has those of 64 rows, the first in its lowest bit
 unfoldable pub table_bit : List ℕ → ℕ → Bool
 table_bit words row = is_in (slice_index_or words (row / 64) 0) (row % 64)
 

@@ -114,9 +114,13 @@ impl Cut {
         in_first: &[usize],
         in_second: &[usize],
     ) -> Result<Option<Table>, Memory>
-        ensures { (t : ProductsView)
+        ensures joined { (t : ProductsView)
             → IsProduct t product.now.first product.now.second product.now.value
             → AreOverCut t self.old → AreOverCut t self.new }
+        ensures sums { self.new.sums ≡ self.old.sums }
+        ensures table { IfOk result (λ found. IfSome found (λ table. (t : ProductsView)
+            → AreOverCut t self.old → IsProductOverCut t self.old.sums.items table.words
+            product.now.first product.now.second)) }
     {
         let (first, second) = (&product.first, &product.second);
         let Some(table) = self.product_table(first, in_first, second, in_second)? else {

@@ -17,7 +17,7 @@ const PERIODS: [u64; 6] = [
     0xFFFF_FFFF_0000_0000,
 ];
 
-/// A truth table of 4,096 rows: bit b of word i is the value in row 64 i + b.
+/// A truth table of 4,096 rows: a word has the values of 64 of them, the first in its lowest bit.
 #[derive(Clone, Copy, Drop)]
 pub struct Table {
     pub words: [u64; 64],

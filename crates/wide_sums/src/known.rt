@@ -43,7 +43,8 @@ fn word_of_products(
     known: &[Known],
     products: &[WideProduct],
 ) -> Result<Option<u64>, Memory>
-    ensures { IfOk result (λ found. IfSome found (AreProductsWord axes.now known.now products.now)) }
+    ensures { IfOk result
+        (λ found. IfSome found (AreProductsWord axes.now known.now products.now)) }
 {
     let mut sum = 0;
     for product in products {

@@ -1,5 +1,5 @@
-//! Functions of at most six bits, as words of 64 rows: what they span, and how one is made of others
-//! by few products. Of none of it anything is promised.
+//! Functions of at most six bits, as words of 64 rows: what they span, and how one is made of
+//! others by few products. Of none of it anything is promised.
 #![tactic(auto)]
 
 mod programs;

@@ -12,7 +12,8 @@ loop-sum-preserved c =
     let e =
     ap (λ l. slice_get l c.loop-sum.sum-index) (sym c.outputs-sum-items.ensures.outputs)
     ∙ slice_get_read sums (length sums) c.loop-sum.sum-index _ refl c.loop-sum-test.true c.sum-item.is in
-    rw (c.in_ok-push.ensures.items, c.in_ok-of.ensures) (one_more c.args.graph.now c.loop-sum.sum-index _ _ c.outputs-sum-items.ensures.keeps e c.loop-sum.invariant)
+    rw (c.in_ok-push.ensures.items, c.in_ok-of.ensures)
+    (one_more c.args.graph.now c.loop-sum.sum-index _ _ c.outputs-sum-items.ensures.keeps e c.loop-sum.invariant)
 
 pub returns : goal.returns
 returns c = all_outputs _ c.loop-sum.sum-index _ (rw c.outputs-sum-items.ensures.outputs at c.loop-sum-test.false) c.loop-sum.invariant
