@@ -1,7 +1,6 @@
 -- What terms compute: bits, in place of the locations that a run puts them in.
 use Rattle.std.specs.Prelude.{◌≡◌, ℕ, ◌+◌, ◌≤◌, Bool, Option, Some, None, List, [], ◌∷◌, length, slice_get, bytes_eq, cond}
-use Rattle.revs_tape.specs.declared.limits.TheConstants.{MOST_WRITES}
-use Rattle.revs_terms.specs.declared.limits.TheConstants.{MOST_WORK}
+use Rattle.revs_terms.specs.declared.limits.TheConstants.{MOST_RUN_WRITES, MOST_WORK}
 use Rattle.revs_terms.specs.declared.term.Name.{Name}
 use Rattle.revs_terms.specs.Trees.{Tree, ItemTree, bind}
 use Rattle.revs_terms.specs.Running.{Value, bit, register, closure, Environment, nothing, bound, Stamped, State, Outcome, went, run_of}
@@ -67,7 +66,7 @@ abbrev mutual
 -- The run may do so much more: units of work, and writes.
 pub record HasRoom (s : State Bool) (k : ℕ) : Type 0 where
   pub work : s.work + k ≤ MOST_WORK
-  pub writes : length s.log + k ≤ MOST_WRITES
+  pub writes : length s.log + k ≤ MOST_RUN_WRITES
 
 -- The run went on from one state to another: what locations held they hold, work and writes rose by
 -- no more than this, and no claim was made.

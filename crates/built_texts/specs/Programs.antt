@@ -1,9 +1,9 @@
 -- What a program computes whose body has a meaning on every input, and the texts of such programs.
 use Rattle.std.specs.Prelude.{◌≡◌, ℕ, ◌≤◌, Bool, false, Option, Some, None, IsTrue, List, [], ◌∷◌, length, take, drop, get_or}
-use Rattle.revs_tape.specs.declared.limits.TheConstants.{MOST_OUTPUTS, MOST_WRITES}
+use Rattle.revs_tape.specs.declared.limits.TheConstants.{MOST_OUTPUTS}
 use Rattle.revs_tape.specs.Tapes.{TapeView}
 use Rattle.text_places.specs.Places.{start}
-use Rattle.revs_terms.specs.declared.limits.TheConstants.{MOST_DEPTH}
+use Rattle.revs_terms.specs.declared.limits.TheConstants.{MOST_DEPTH, MOST_RUN_WRITES}
 use Rattle.revs_terms.specs.declared.program.Param.{Param}
 use Rattle.revs_terms.specs.Programs.{width_of, AreParams}
 use Rattle.revs_terms.specs.Runs.{IsInput, HasOutput, IsTapeOf}
@@ -42,7 +42,7 @@ IsOutput (of_function names body sc) = ⊥
 pub record IsBodyRun (params : List Param) (unbound : Tree)
     (means : List Bool → Meaning) : Type 0 where
   pub units : ℕ
-  pub few : units ≤ MOST_WRITES
+  pub few : units ≤ MOST_RUN_WRITES
   pub runs : (input : List Bool) → IsInput params input
       → IsRun MOST_DEPTH (inputs_of params input no_names) unbound (means input) units
   pub outputs : (input : List Bool) → IsInput params input → IsOutput (means input)

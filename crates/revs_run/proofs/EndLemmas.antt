@@ -22,7 +22,7 @@ use Rattle.revs_run.specs.declared.machine.Machine.{Machine}
 use Rattle.revs_run.specs.Faults.{IsStuckOnAll, IsRefused}
 use Rattle.revs_terms.specs.Terms.{is_formed}
 use Rattle.revs_terms.specs.Programs.{AreParams}
-use Rattle.revs_terms.proofs.BitlessTapeLemmas.{same_for_all}
+use Rattle.revs_terms.proofs.BitlessTapeLemmas.{same_for_all, writes_few}
 use Rattle.revs_terms.proofs.OutputLemmas.{has_outputs}
 use Rattle.std.specs.Prelude.{IsTrue}
 use Rattle.std.proofs.lemmas.List.{length-map}
@@ -172,6 +172,10 @@ refused params body fault s = record { stuck = stuck_on_all params body fault s.
 
 pub left_on_all : (params : List Param) (body : Tree) (tape : TapeView) → Leaves params body tape → IsTapeOf params body tape
 left_on_all params body tape l = subst (IsTapeOf params body) (sym l.left) ((same_for_all params body).1 l.outputs l.state l.ends)
+
+pub written_few : (params : List Param) (body : Tree) (tape : TapeView) → Leaves params body tape → length tape.entries ≤ 262144
+written_few params body tape l =
+    subst (λ (t : TapeView). length t.entries ≤ 262144) (sym l.left) (writes_few params body l.outputs l.state l.ends)
 
 -- a program has an output
 pub some_made : (left : ℕ) (params : List Param) (body : Tree) (m now : Machine) (env : ℕ) (made : List Ref)

@@ -1,7 +1,7 @@
 // The machine that runs a program without bits.
 ghost use Rattle.std.specs.Prelude.{◌≡◌, ◌<◌, length, sum, IfOk, OnOk, IfErr, IsErrOf};
-ghost use Rattle.revs_tape.specs.declared.limits.TheConstants.{MOST_WRITES};
 ghost use Rattle.revs_tape.specs.Tapes.{IsKnown, IsKnownEntry};
+ghost use Rattle.revs_terms.specs.declared.limits.TheConstants.{MOST_RUN_WRITES};
 ghost use Rattle.revs_terms.specs.Running.{went, worked, written, read};
 ghost use Rattle.revs_terms.specs.Runs.{no_bits};
 ghost use Rattle.revs_terms.specs.Terms.{place_of};
@@ -15,9 +15,8 @@ use crate::RunFault;
 use crate::leaps::Leap;
 use array_shapes::Value;
 use revc_base::Place;
-use revs_tape::limits::MOST_WRITES;
 use revs_tape::{Entry, Ref, Tape};
-use revs_terms::limits::MOST_WORK;
+use revs_terms::limits::{MOST_RUN_WRITES, MOST_WORK};
 use revs_terms::{Cause, Term};
 use std::alloc::Global;
 
@@ -137,9 +136,9 @@ impl<'t> Machine<'t> {
         ensures err { IfErr result (λ fault. Says fault
             (written no_bits entry tt at (state_of self.old))) }
         ensures memory { IsErrOf result (RunFault.Memory _)
-            → length self.old.tape.entries < MOST_WRITES }
+            → length self.old.tape.entries < MOST_RUN_WRITES }
     {
-        if self.tape.len() as usize >= MOST_WRITES {
+        if self.tape.len() as usize >= MOST_RUN_WRITES {
             return Err(RunFault::stuck(Cause::Writes, at));
         }
         let location = self.store.len() as u32;

@@ -3,7 +3,7 @@ ghost use Rattle.std.specs.Prelude.{◌≡◌, ◌≤◌, length, sum, IfOk, IfE
 ghost use Rattle.std.specs.List.{AllByRecursion};
 ghost use Rattle.revs_tape.specs.declared.limits.TheConstants.{MOST_OUTPUTS};
 ghost use Rattle.revs_tape.specs.Tapes.{IsKnown};
-ghost use Rattle.revs_terms.specs.declared.limits.TheConstants.{MOST_DEPTH};
+ghost use Rattle.revs_terms.specs.declared.limits.TheConstants.{MOST_DEPTH, MOST_RUN_WRITES};
 ghost use Rattle.revs_terms.specs.Runs.{no_bits, read_all, run_without_bits, IsTapeOf};
 ghost use Rattle.revs_terms.specs.Terms.{place_of};
 ghost use Rattle.revs_terms.specs.Trees.{tree_of};
@@ -27,11 +27,12 @@ use std::alloc::Global;
 /// Runs a program whose names are bound once for all inputs, to the tape that its run leaves on
 /// each of them.
 ///
-/// A fault comes exactly where the run is stuck, with that cause and place, on every input; want of
-/// memory may come anywhere.
+/// The tape has at most 262,144 writes. A fault comes exactly where the run is stuck, with that
+/// cause and place, on every input; want of memory may come anywhere.
 pub fn run(alloc: Global, scoped: &Scoped) -> Result<Tape, RunFault>
     ensures ok { IfOk result (λ tape. IsTapeOf scoped.now.program.params.items
         (tree_of scoped.now.program.body) tape) }
+    ensures few { IfOk result (λ tape. length tape.entries ≤ MOST_RUN_WRITES) }
     ensures err { IfErr result (λ fault. IsRefused scoped.now.program.params.items
         (tree_of scoped.now.program.body) fault) }
 {

@@ -6,5 +6,5 @@ use Rattle.revs_tape.specs.declared.limits.TheConstants.{MOST_INPUTS, MOST_OUTPU
 pub record LimitsAre : Type 0 where
   pub inputs : MOST_INPUTS ≡ 1024
   pub outputs : MOST_OUTPUTS ≡ 1024
-  pub writes : MOST_WRITES ≡ 262144
+  pub writes : MOST_WRITES ≡ 278528
   pub claims : MOST_CLAIMS ≡ 4096

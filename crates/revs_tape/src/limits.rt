@@ -8,8 +8,9 @@ pub const MOST_INPUTS: u32 = 1_024;
 /// The most outputs of a program.
 pub const MOST_OUTPUTS: usize = 1_024;
 
-/// The most writes of a run.
-pub const MOST_WRITES: usize = 262_144;
+/// The most writes of a tape: those of a run, and those that say on which inputs its claims are
+/// looked at.
+pub const MOST_WRITES: usize = 278_528;
 
 /// The most claims of a run.
 pub const MOST_CLAIMS: usize = 4_096;

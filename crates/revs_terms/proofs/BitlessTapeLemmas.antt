@@ -15,7 +15,7 @@ use Rattle.revs_terms.specs.Trees.{Tree}
 use Rattle.revs_terms.specs.Terms.{place_of}
 use Rattle.revs_terms.specs.Running.{Value, unit, bit, register, number, closure, nothing, Stamped, Met, State, Outcome, stuck, went, after, run_of}
 use Rattle.revs_terms.specs.Runs.{inputs_from, start, params_in, locations_of, read_all, no_bits, real_bits, nothings, run_of_program, run_without_bits}
-use Rattle.revs_terms.specs.Runs.{IsInput, LeavesOn, tape_of, SameForAll, RunsLeaveTapes}
+use Rattle.revs_terms.specs.Runs.{IsInput, LeavesOn, tape_of, SameForAll, RunsLeaveTapes, RunsWriteFew}
 use Rattle.std.proofs.lemmas.Bool.{and_parts}
 use Rattle.revs_terms.proofs.PairedLemmas.{OptionPaired, Paired, same_length}
 use Rattle.revs_terms.proofs.BitlessRunLemmas.{IsAlike, IsAlikeClaim, AreAlike, Answers, GoTogether, both_stuck, next, next_with, answers, both_provided}
@@ -187,7 +187,7 @@ module _ (input : List Bool) where
       record {
         widths = record { bits = positive (widths_of params) ps.bits; inputs = ps.inputs };
         known = subst (λ l. AreKnown (sum (widths_of params)) 0 l) (sym log) (subst (λ n. AreKnown n 0 t.log) whole e.meets.alike.known);
-        few_entries = subst (λ l. length l ≤ 262144) (sym log) few_entries;
+        few_entries = omega (arith, ap length log);
         claims = all_map (IsAlikeClaim input t.log) (λ m. m.claim) (λ c. IsKnown (sum (widths_of params)) (length s.log) c.of)
             (λ a b h. known log b.claim.of a.claim.of (ap (λ (c : Claim). c.of) (sym h.claim)) h.known) s.claims t.claims e.meets.alike.claims;
         few_claims = omega (arith, length-map s.claims (λ (m : Met (Unit {0})). m.claim));
@@ -219,3 +219,12 @@ leaves_tape params body outputs s ps e =
     let input : List Bool = replicate (sum (widths_of params)) false in
     let whole : length input ≡ sum (widths_of params) = length-replicate (sum (widths_of params)) false in
     kept_tape input params body outputs s ps whole (both_end_together input params body outputs s whole e)
+
+pub writes_few : RunsWriteFew
+writes_few params body outputs s e =
+    let input : List Bool = replicate (sum (widths_of params)) false in
+    let whole : length input ≡ sum (widths_of params) = length-replicate (sum (widths_of params)) false in
+    few input (both_end_together input params body outputs s whole e)
+  where
+    few : (input : List Bool) {end : Outcome Bool (List (Stamped Bool))} → Ended input (AreEnds input) outputs s end → length s.log ≤ 262144
+    few input ended = subst (λ l. length l ≤ 262144) (sym ended.meets.alike.log) ended.meets.alike.few_entries

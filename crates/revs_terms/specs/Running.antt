@@ -5,7 +5,7 @@
 -- a bit.
 use Rattle.std.specs.Prelude.{ℕ, zero, suc, ◌+◌, ◌-◌, leb, Bool, true, false, ◌&&◌, Option, Some, None, List, [], ◌∷◌, ◌++◌, length, take, drop, slice_get}
 use Rattle.std.specs.Prelude.{slice_set, ℤ, pos, negsuc, ◌+ℤ◌, ◌-ℤ◌, neg_ℤ, int_le, unsigned_abs, if◌then◌else◌}
-use Rattle.revs_tape.specs.declared.limits.TheConstants.{MOST_WRITES, MOST_CLAIMS}
+use Rattle.revs_tape.specs.declared.limits.TheConstants.{MOST_CLAIMS}
 use Rattle.revc_base.specs.declared.place.Place.{Place}
 use Rattle.revs_tape.specs.declared.tape.Ref.{Ref}
 use Rattle.revs_tape.specs.declared.tape.Ref.TheVariants as refs
@@ -16,7 +16,7 @@ use Rattle.revs_tape.specs.declared.tape.Kind.TheVariants as kinds
 use Rattle.revs_tape.specs.declared.tape.Claim.{Claim}
 use Rattle.revs_terms.specs.declared.cause.Cause.{Cause}
 use Rattle.revs_terms.specs.declared.cause.Cause.TheVariants as causes
-use Rattle.revs_terms.specs.declared.limits.TheConstants.{MOST_PLACES, MOST_WORK, MOST_NUMBER}
+use Rattle.revs_terms.specs.declared.limits.TheConstants.{MOST_PLACES, MOST_RUN_WRITES, MOST_WORK, MOST_NUMBER}
 use Rattle.revs_terms.specs.declared.term.Name.{Name}
 use Rattle.revs_terms.specs.declared.term.Unit as u
 use Rattle.revs_terms.specs.declared.term.Unit.TheVariants as units
@@ -177,7 +177,7 @@ module _ {B : Type 0} (bits : Bits B) where
   -- a new entry of the log, and a new location with its bit
   abbrev pub written : Entry → B → Place → RunStep B ℕ
   written entry b at s =
-      provided (leb (length s.log + 1) MOST_WRITES) causes.Writes at
+      provided (leb (length s.log + 1) MOST_RUN_WRITES) causes.Writes at
       (went (length s.store) (record s {
         store = s.store ++ Some (record { bit = b; stamp = refs.Write (length s.log) }) ∷ [];
         log = s.log ++ entry ∷ [];

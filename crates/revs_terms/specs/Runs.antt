@@ -5,7 +5,7 @@ use Rattle.revs_tape.specs.declared.limits.TheConstants.{MOST_OUTPUTS}
 use Rattle.revc_base.specs.declared.place.Place.{Place}
 use Rattle.revs_tape.specs.declared.tape.Ref.TheVariants as refs
 use Rattle.revs_tape.specs.Tapes.{TapeView, IsTape, bit_on, outputs_on}
-use Rattle.revs_terms.specs.declared.limits.TheConstants.{MOST_DEPTH}
+use Rattle.revs_terms.specs.declared.limits.TheConstants.{MOST_DEPTH, MOST_RUN_WRITES}
 use Rattle.revs_terms.specs.declared.program.Param.{Param}
 use Rattle.revs_terms.specs.Programs.{width_of, widths_of, AreParams}
 use Rattle.revs_terms.specs.Terms.{place_of, is_formed}
@@ -152,6 +152,12 @@ RunsLeaveTapes =
     (params : List Param) (body : Tree) (outputs : List (Stamped (Unit {0}))) (s : State (Unit {0}))
     → AreParams params → run_without_bits params body ≡ went outputs s
     → IsTape (tape_of params outputs s)
+
+-- What a run without bits writes is within the limit of a run.
+abbrev pub RunsWriteFew : Type 0
+RunsWriteFew =
+    (params : List Param) (body : Tree) (outputs : List (Stamped (Unit {0}))) (s : State (Unit {0}))
+    → run_without_bits params body ≡ went outputs s → length s.log ≤ MOST_RUN_WRITES
 
 -- A program whose run ends has an output: no register is empty.
 abbrev pub HasOutputs : Type 0

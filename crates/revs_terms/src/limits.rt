@@ -11,6 +11,9 @@ pub const MOST_DEPTH: u32 = 400;
 /// The most work of a run.
 pub const MOST_WORK: u32 = 16_777_216;
 
+/// The most writes of a run.
+pub const MOST_RUN_WRITES: usize = 262_144;
+
 /// The most places of a register.
 pub const MOST_PLACES: usize = 4_096;
 

@@ -1,6 +1,6 @@
 // Programs, as the grammar gives them.
 ghost use Rattle.revs_terms.specs.Programs.{AreParams, IsBody, HasFewNames};
-ghost use Rattle.revs_terms.specs.Runs.{SameForAll, RunsLeaveTapes, HasOutputs, OneTape};
+ghost use Rattle.revs_terms.specs.Runs.{SameForAll, RunsLeaveTapes, RunsWriteFew, HasOutputs, OneTape};
 ghost use Rattle.revs_terms.specs.Runs.{TapeGivesOutput};
 ghost use Rattle.revs_terms.specs.Trees.{tree_of};
 
@@ -35,9 +35,10 @@ pub fn same_for_all()
 {}
 
 /// What a run without bits leaves is a tape: each reference is an input or an earlier write, and
-/// the limits of a tape hold.
+/// the limits of a tape hold. It has no more writes than a run may have.
 pub fn leaves_tape()
-    ensures { RunsLeaveTapes }
+    ensures tape { RunsLeaveTapes }
+    ensures few { RunsWriteFew }
 {}
 
 /// A program whose run ends has an output: no register of a run is empty.
