@@ -24,7 +24,7 @@ use Rattle.dependency_graph.proofs.TableLemmas.{at_below}
 use Rattle.dependency_graph.proofs.ValueLemmas.{graph_of_tape}
 use Rattle.claim_check.specs.Settled.{SettledView}
 use Rattle.claim_check.specs.Kept.{kept_nodes, kept_part, rank, renumbered, renumbered_base, renumbered_sig}
-use Rattle.claim_check.specs.inside.Parts.{IsSettledPart}
+use Rattle.claim_check.specs.Measures.{IsSettledPart}
 use Rattle.claim_check.specs.inside.Marks.{number_in, with_marks, with_nodes}
 use Rattle.claim_check.proofs.KeptLemmas.{IsClosed}
 use Rattle.claim_check.proofs.MarkLemmas.{marks_are_closed}

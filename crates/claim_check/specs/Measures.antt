@@ -10,12 +10,13 @@ use Rattle.revs_tape.specs.Monomials.{AreMonomialsOf}
 use Rattle.revs_tape.specs.Tapes.{TapeView, bit_on}
 use Rattle.dependency_graph.specs.declared.node.Base.TheVariants as bases
 use Rattle.dependency_graph.specs.declared.node.Sig.TheVariants.{Is}
-use Rattle.dependency_graph.specs.Graphs.{ands_in}
+use Rattle.dependency_graph.specs.Graphs.{GraphView, ands_in}
 use Rattle.dependency_graph.specs.Uses.{cut_in}
 use Rattle.dependency_graph.specs.Widths.{HasNodeWidth, IsNoWider}
 use Rattle.claim_check.specs.Budgets.{Measures, plain_lines, plain_gates, fine_lines, fine_gates}
 use Rattle.claim_check.specs.Budgets.{block_lines, block_gates, eager_lines, eager_gates}
-use Rattle.claim_check.specs.Settled.{SettledView, IsSettledOf, as_graph, settled_value}
+use Rattle.claim_check.specs.Kept.{IsKeptPart}
+use Rattle.claim_check.specs.Settled.{SettledView, IsSettled, IsSettledOf, as_graph, settled_value}
 
 -- ---- a settled graph beside its tape
 
@@ -35,6 +36,13 @@ pub record IsNoLarger (t : TapeView) (s : SettledView) : Type 0 where
   pub cuts : (width : ℕ) → HasWidth t width → IsNoWider (as_graph s) width
   pub writes : HaveOwnWrites t s
   pub ands : ands_in s.nodes ≤ ands_of t
+
+-- The settled graph is exactly the part of the tape's graph on which an output rests.
+pub record IsSettledPart (t : TapeView) (g : GraphView) (s : SettledView) : Type 0 where
+  pub part : IsKeptPart g s
+  pub settled : IsSettled s
+  pub of_tape : IsSettledOf t s
+  pub no_larger : IsNoLarger t s
 
 -- ---- measures
 

@@ -4,6 +4,5 @@ pub mod Fields
 pub mod Labels
 pub mod Marks
 pub mod Numbers
-pub mod Parts
 pub mod Slots
 pub mod Tables

@@ -139,7 +139,15 @@ fn no_numbers(alloc: Global, diagram: &Diagram, count: usize) -> Result<Vec<Dd>,
     Ok(vec![in alloc; diagram.truth(false); count]?)
 }
 
-// Settles each claim of a tape, in their order.
+/// Settles each claim of a tape for all inputs, in their order.
+///
+/// `limit` bounds the inner nodes of the diagrams, which are the functions on which the claims
+/// rest, with their first variables fixed and without constants.
+///
+/// # Errors
+///
+/// `Broken` where a claim fails on some input, `Diagram` where a claim passes the limit: the first
+/// of these in the order of the claims.
 pub fn settle_claims(tape: &Tape, limit: u32) -> Result<(), ClaimFault>
     requires { 1 ≤ limit }
     ensures hold { OnOk result (HoldWithin tape.now limit) }

@@ -11,7 +11,7 @@ ghost use Rattle.dependency_graph.specs.Graphs.{base_of, operands};
 ghost use Rattle.claim_check.specs.Kept.{kept_nodes, rank, renumbered, renumbered_base};
 ghost use Rattle.claim_check.specs.Kept.{renumbered_sig};
 ghost use Rattle.claim_check.specs.inside.Marks.{number_in, with_mark, with_marks, with_nodes};
-ghost use Rattle.claim_check.specs.inside.Parts.{IsSettledPart};
+ghost use Rattle.claim_check.specs.Measures.{IsSettledPart};
 
 use dependency_graph::{Base, Graph, Node, Sig};
 use revc_base::Memory;

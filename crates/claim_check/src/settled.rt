@@ -3,7 +3,7 @@ ghost use Rattle.std.specs.Prelude.{◌≡◌, ◌<◌, length, slice_get, Some,
 ghost use Rattle.dependency_graph.specs.Folds.{graph_of};
 ghost use Rattle.dependency_graph.specs.Uses.{last_use_in};
 ghost use Rattle.claim_check.specs.Settled.{IsSettled, as_graph, SettledView};
-ghost use Rattle.claim_check.specs.inside.Parts.{IsSettledPart};
+ghost use Rattle.claim_check.specs.Measures.{IsSettledPart};
 ghost use Rattle.claim_check.specs.inside.Fields.{view_of, IsKept};
 
 use crate::keeping::kept_part;
@@ -12,8 +12,8 @@ use revc_base::Memory;
 use revs_tape::Tape;
 use std::marker::Model;
 
-/// The nodes of a graph on which an output rests, renumbered in their order, after every claim was
-/// settled. Contracts see it as the number of inputs and the lists of nodes and outputs.
+/// The nodes of a graph on which an output rests, renumbered in their order. Contracts see it as the
+/// number of inputs and the lists of nodes and outputs.
 #[derive(Drop)]
 pub struct Settled {
     inputs: u32,
@@ -32,7 +32,7 @@ impl Model for Settled {
 
 impl Settled {
     /// The nodes of a tape's graph on which an output rests, in time linear in the graph.
-    pub(crate) fn of(graph: &Graph, tape: &Tape) -> Result<Settled, Memory>
+    pub fn of(graph: &Graph, tape: &Tape) -> Result<Settled, Memory>
         requires { graph.now ≡ graph_of tape.now }
         ensures { IfOk result (IsSettledPart tape.now graph.now) }
     {

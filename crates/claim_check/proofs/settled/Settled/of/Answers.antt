@@ -1,5 +1,5 @@
 use Rattle.std.proofs.Common.{sym, subst}
-use Rattle.claim_check.specs.inside.Parts.{IsSettledPart}
+use Rattle.claim_check.specs.Measures.{IsSettledPart}
 use Rattle.claim_check.proofs.settled.Settled.of.Goals as goal
 
 pub kept_part-requires-clause-of_tape : goal.kept_part-requires-clause-of_tape
