@@ -1,0 +1,4 @@
+pub mod Assumptions
+pub mod Laws
+pub mod Settling
+pub mod inside
