@@ -13,9 +13,9 @@ use Rattle.circuit_plans.specs.declared.roles.Start.TheVariants.{Any, Zero}
 use Rattle.circuit_plans.specs.Plans.{MayHold, added}
 use Rattle.decision_diagram.specs.Diagrams.{Triple}
 use Rattle.decision_diagram.specs.Growth.{StandsFor}
-use Rattle.circuit_verify.specs.Comparisons.{Comparison, held_by, lines_for, output_variables, put_by}
+use Rattle.circuit_verify.specs.Comparisons.{Comparison, IsAdded, held_by, lines_for, output_variables, put_by}
 use Rattle.circuit_verify.specs.Verdicts.{FillsInputs}
-use Rattle.circuit_verify.specs.inside.Numbers.{AreNumbersOf, IsAdded, held_numbers}
+use Rattle.circuit_verify.specs.inside.Numbers.{AreNumbersOf, held_numbers}
 use Rattle.circuit_verify.proofs.NumberLemmas.{numbers-drop, numbers-take, numbers-zeros}
 
 -- no more than there are

@@ -92,29 +92,29 @@ same_or_before v one other size size2 =
 
 -- ---- where a circuit differs
 
-none_by : (program : Specification) (circuit : CircuitView) (placing : Placing) (borrow line : ℕ) (bits : List Bool)
-    → Agrees (beside program circuit placing borrow) → DiffersFirst (beside program circuit placing borrow) line bits → ⊥
-none_by program circuit (Added start) borrow line bits agrees first =
-    let q = beside program circuit (Added start) borrow in
+none_by : (program premise : Specification) (circuit : CircuitView) (placing : Placing) (borrow line : ℕ) (bits : List Bool)
+    → Agrees (beside program premise circuit placing borrow) → DiffersFirst (beside program premise circuit placing borrow) line bits → ⊥
+none_by program premise circuit (Added start) borrow line bits agrees first =
+    let q = beside program premise circuit (Added start) borrow in
     let n : ℕ = inputs_in q in
     let o : ℕ = program.outputs in
     let v : ℕ = output_variables (Added start) o in
     let behind : List Bool = drop n bits in
-    let size : length behind ≡ v + borrow = length-drop n bits ∙ omega (arith, first.are_bits) in
+    let size : length behind ≡ v + borrow = length-drop n bits ∙ omega (arith, first.are_bits.0) in
     let held : List Bool = held_by (Added start) o behind in
     let rest : List Bool = zeros (work_lines q) ++ drop v behind in
-    let adds = agrees.adds (take n bits) held (drop v behind) (length-take-le n bits (omega (arith, first.are_bits)))
+    let adds = agrees.adds (take n bits) held (drop v behind) (length-take-le n bits (omega (arith, first.are_bits.0))) first.are_bits.1
     (length-held_by (Added start) o borrow behind size) (held_may start o behind) (length-drop v behind ∙ omega (arith, size)) in
     first.differs (ap (λ (z : List Bool). bit_of z line) (adds.mapped ∙ sym (append_assoc (take n bits) (added held (program.value (take n bits))) rest)))
-none_by program circuit InPlace borrow line bits agrees first =
-    let n : ℕ = inputs_in (beside program circuit InPlace borrow) in
+none_by program premise circuit InPlace borrow line bits agrees first =
+    let n : ℕ = inputs_in (beside program premise circuit InPlace borrow) in
     let behind : List Bool = drop n bits in
-    let size : length behind ≡ borrow = length-drop n bits ∙ omega (arith, first.are_bits) in
-    let replaces = agrees.replaces (take n bits) behind (length-take-le n bits (omega (arith, first.are_bits))) size in
+    let size : length behind ≡ borrow = length-drop n bits ∙ omega (arith, first.are_bits.0) in
+    let replaces = agrees.replaces (take n bits) behind (length-take-le n bits (omega (arith, first.are_bits.0))) first.are_bits.1 size in
     first.differs (ap (λ (z : List Bool). bit_of z line) replaces.mapped)
 
 none_differs : (q : Comparison) (line : ℕ) (bits : List Bool) → Agrees q → DiffersFirst q line bits → ⊥
-none_differs q = none_by q.program q.circuit q.placing q.borrow
+none_differs q = none_by q.program q.premise q.circuit q.placing q.borrow
 
 few_or_enough : (placing : Placing) (inputs outputs : ℕ) → placing ≡ InPlace → outputs < inputs → FillsInputs placing inputs outputs → ⊥
 few_or_enough placing inputs outputs is few fills =
@@ -133,7 +133,7 @@ one_line q line other bits others first second =
 
 one_list : (q : Comparison) (line : ℕ) (bits others : List Bool) → DiffersFirst q line bits → DiffersFirst q line others → bits ≡ others
 one_list q line bits others first second =
-    elim (same_or_before (ordered_in q) bits others first.are_bits second.are_bits) as (λ _. bits ≡ others) [
+    elim (same_or_before (ordered_in q) bits others first.are_bits.0 second.are_bits.0) as (λ _. bits ≡ others) [
       | inl same ↦ same
       | inr differ ↦ elim differ as (λ _. bits ≡ others) [
         | inl before ↦ absurd (first.differs (second.least bits first.are_bits before))

@@ -2,6 +2,8 @@ pub mod AskLemmas
 pub mod HeldLemmas
 pub mod LawLemmas
 pub mod LineLemmas
+pub mod LookedBitLemmas
+pub mod LookedLemmas
 pub mod NumberLemmas
 pub mod OrderLemmas
 pub mod StepLemmas

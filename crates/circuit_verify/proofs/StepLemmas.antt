@@ -1,6 +1,6 @@
 -- The steps of a comparison: one more bit, one more node, one more output, one more gate.
 use Rattle.std.proofs.Common.{◌≡◌, ℕ, ◌+◌, ◌<◌, ◌≤◌, Bool, false, List, [], ◌∷◌, ◌++◌, length, map, take, drop, replicate, get_or, slice_get, Some}
-use Rattle.std.proofs.Common.{sym, ap, ap₂, ◌∙◌, subst, arith, Result, append_assoc, length-append}
+use Rattle.std.proofs.Common.{refl, sym, ap, ap₂, ◌∙◌, subst, arith, Result, append_assoc, length-append}
 use Rattle.std.specs.Bool.{xor}
 use Rattle.std.specs.List.{AllByRecursion}
 use Rattle.std.proofs.lemmas.Simd.{get_or-zip2, length-zip2}
@@ -18,7 +18,7 @@ use Rattle.decision_diagram.specs.declared.node.DdFault.TheVariants as dd
 use Rattle.decision_diagram.specs.Growth.{Computes, KeepsNodes, MayRefuse, StandsFor}
 use Rattle.decision_diagram.proofs.GrowthLemmas.{StandsFor-same}
 use Rattle.claim_check.specs.Measures.{node_function}
-use Rattle.claim_check.specs.Settled.{settled_outputs, settled_value}
+use Rattle.claim_check.specs.Settled.{SettledView, settled_outputs, settled_value}
 use Rattle.claim_check.specs.Variables.{AreVariables}
 use Rattle.claim_check.proofs.NodeLemmas.{known_at, values_on}
 use Rattle.claim_check.proofs.VariableLemmas as places
@@ -30,13 +30,13 @@ use Rattle.mct_circuit.proofs.ReversalLemmas.{length-line_map}
 use Rattle.circuit_plans.specs.declared.roles.Placing.{Placing}
 use Rattle.circuit_plans.specs.declared.roles.Placing.TheVariants.{InPlace}
 use Rattle.circuit_plans.specs.Plans.{added}
-use Rattle.circuit_verify.specs.Comparisons.{Comparison, borrowed_bits, input_bits, inputs_in, lines_for, order_in, output_bits, output_lines}
+use Rattle.circuit_verify.specs.Comparisons.{Comparison, IsAdded, borrowed_bits, input_bits, inputs_in, lines_for, order_in, output_bits, output_lines}
 use Rattle.circuit_verify.specs.Comparisons.{output_variables, put_by, start_on, variables_in, wanted_on, wanted_ports, work_lines}
-use Rattle.circuit_verify.specs.LineFunctions.{Line, Step, Wanted}
+use Rattle.circuit_verify.specs.LineFunctions.{Assumed, Line, Step, Wanted}
 use Rattle.circuit_verify.specs.Verdicts.{FillsInputs, HasEnoughLines, IsComparable, verify_fault}
 use Rattle.circuit_verify.specs.declared.fault.VerifyFault.TheVariants as faults
 use Rattle.circuit_verify.specs.Compared.{ComparedView, IsReady, comparison}
-use Rattle.circuit_verify.specs.inside.Numbers.{AreEnds, AreLaid, AreNumbersOf, GrowsBy, IsAdded, bits_in, first_ports, first_values}
+use Rattle.circuit_verify.specs.inside.Numbers.{AreEnds, AreLaid, AreNumbersOf, GrowsBy, HoldsNodesOf, bits_in, first_ports, first_values}
 use Rattle.circuit_verify.specs.inside.Numbers.{held_numbers, holder_function, line_function_of, node_function_of, sig_function_of}
 use Rattle.circuit_verify.proofs.AskLemmas.{IsAnswered, IsHeldBit, answered, held_bit_of}
 use Rattle.circuit_verify.proofs.HeldLemmas.{held_are, length-held_by, length-put_by, lines_added, put_added}
@@ -86,90 +86,117 @@ many_bits q nodes numbers are = length-numbers q nodes numbers (λ bits. bits) (
 
 -- ---- nodes
 
-pub many_nodes : (v : ComparedView) (nodes : List Triple) (numbers : List ℕ) (k : ℕ) → k ≤ length v.graph.nodes
-    → AreNumbersOf (comparison v) nodes numbers (λ bits. first_values v.graph k (input_bits (comparison v) bits)) → length numbers ≡ k
-many_nodes v nodes numbers k low are =
-    let q = comparison v in
+pub many_nodes : (q : Comparison) (s : SettledView) (nodes : List Triple) (numbers : List ℕ) (k : ℕ) → k ≤ length s.nodes
+    → AreNumbersOf q nodes numbers (λ bits. first_values s k (input_bits q bits)) → length numbers ≡ k
+many_nodes q s nodes numbers k low are =
     let input : List Bool = input_bits q (bits_in q (λ i. false)) in
-    length-numbers q nodes numbers (λ bits. first_values v.graph k (input_bits q bits)) (λ i. false) are
-    ∙ length-take-le k (values_on v.graph input) (omega (arith, low, length-values v.graph input))
+    length-numbers q nodes numbers (λ bits. first_values s k (input_bits q bits)) (λ i. false) are
+    ∙ length-take-le k (values_on s input) (omega (arith, low, length-values s input))
+
+-- the program's graph and that of the premise
+pub program_graph : (v : ComparedView) → IsReady v → HoldsNodesOf (comparison v) v.graph
+program_graph v ready = record {
+  inputs = ready.inputs;
+  settled = ready.settled;
+  holder = Step;
+  held = λ k low. low;
+  same = λ k bits. refl;
+}
+
+pub premise_graph : (v : ComparedView) → IsReady v → HoldsNodesOf (comparison v) v.premise
+premise_graph v ready = record {
+  inputs = ready.inputs ∙ sym ready.assumed_inputs;
+  settled = ready.settled_premise;
+  holder = Assumed;
+  held = λ k low. low;
+  same = λ k bits. refl;
+}
 
 -- the next node is made of what has numbers
--- a node of the graph, behind whose earlier ones all have numbers
-pub record IsReached (v : ComparedView) (nodes : List Triple) (bits numbers : List ℕ) (k : ℕ) (node : Node) : Type 0 where
-  pub low : k < length v.graph.nodes
-  pub at : slice_get v.graph.nodes k ≡ Some node
-  pub bits_are : AreNumbersOf (comparison v) nodes bits (λ b. b)
-  pub nodes_are : AreNumbersOf (comparison v) nodes numbers (λ b. first_values v.graph k (input_bits (comparison v) b))
+-- a node of a graph, behind whose earlier ones all have numbers
+pub record IsReached (q : Comparison) (s : SettledView) (nodes : List Triple) (bits numbers : List ℕ) (k : ℕ) (node : Node) : Type 0 where
+  pub low : k < length s.nodes
+  pub at : slice_get s.nodes k ≡ Some node
+  pub bits_are : AreNumbersOf q nodes bits (λ b. b)
+  pub nodes_are : AreNumbersOf q nodes numbers (λ b. first_values s k (input_bits q b))
 
-pub node_placed : (v : ComparedView) → IsReady v → (nodes : List Triple) (bits numbers : List ℕ) (k : ℕ) (node : Node)
-    → IsReached v nodes bits numbers k node → IsKnownNode (length bits) (length numbers) node
-node_placed v ready nodes bits numbers k node is =
+pub node_placed : (q : Comparison) (s : SettledView) → HoldsNodesOf q s → (nodes : List Triple) (bits numbers : List ℕ) (k : ℕ) (node : Node)
+    → IsReached q s nodes bits numbers k node → IsKnownNode (length bits) (length numbers) node
+node_placed q s holds nodes bits numbers k node is =
     let low = is.low in
-    node_more v.graph.inputs (length bits) k (length numbers) node
-    (omega (arith, many_bits (comparison v) nodes bits is.bits_are, ready.inputs))
-    (omega (arith, many_nodes v nodes numbers k (omega (arith, low)) is.nodes_are))
-    (known_at v.graph.inputs k v.graph.nodes node ready.settled.nodes is.at)
+    node_more s.inputs (length bits) k (length numbers) node
+    (omega (arith, many_bits q nodes bits is.bits_are, holds.inputs))
+    (omega (arith, many_nodes q s nodes numbers k (omega (arith, low)) is.nodes_are))
+    (known_at s.inputs k s.nodes node holds.settled.nodes is.at)
 
-pub node_held : (v : ComparedView) → IsReady v → (nodes : List Triple) (bits numbers : List ℕ) (k : ℕ) (node : Node)
-    → IsReached v nodes bits numbers k node → AreSame (node_function_of nodes bits numbers node) (holder_function (comparison v) (Step k))
-node_held v ready nodes bits numbers k node is =
-    node_is (comparison v) v.graph nodes bits numbers k node ready.inputs ready.settled is.at
-    (known_at v.graph.inputs k v.graph.nodes node ready.settled.nodes is.at) is.bits_are is.nodes_are
+pub node_value : (q : Comparison) (s : SettledView) → HoldsNodesOf q s → (nodes : List Triple) (bits numbers : List ℕ) (k : ℕ) (node : Node)
+    → IsReached q s nodes bits numbers k node
+    → AreSame (node_function_of nodes bits numbers node) (λ a. node_function s k (input_bits q (bits_in q a)))
+node_value q s holds nodes bits numbers k node is =
+    node_is q s nodes bits numbers k node holds.inputs holds.settled is.at
+    (known_at s.inputs k s.nodes node holds.settled.nodes is.at) is.bits_are is.nodes_are
 
-pub nodes_more : (v : ComparedView) (nodes : List Triple) (numbers : List ℕ) (n k : ℕ) → k < length v.graph.nodes
-    → AreNumbersOf (comparison v) nodes numbers (λ b. first_values v.graph k (input_bits (comparison v) b))
-    → StandsFor nodes n (holder_function (comparison v) (Step k))
-    → AreNumbersOf (comparison v) nodes (numbers ++ n ∷ []) (λ b. first_values v.graph (k + 1) (input_bits (comparison v) b))
-nodes_more v nodes numbers n k low are stands =
-    let q = comparison v in
+pub node_held : (q : Comparison) (s : SettledView) (holds : HoldsNodesOf q s) (nodes : List Triple) (bits numbers : List ℕ) (k : ℕ) (node : Node)
+    → IsReached q s nodes bits numbers k node → AreSame (node_function_of nodes bits numbers node) (holder_function q (holds.holder k))
+node_held q s holds nodes bits numbers k node is = λ a.
+    node_value q s holds nodes bits numbers k node is a ∙ sym (holds.same k (bits_in q a))
+
+pub nodes_more : (q : Comparison) (s : SettledView) (nodes : List Triple) (numbers : List ℕ) (n k : ℕ) → k < length s.nodes
+    → AreNumbersOf q nodes numbers (λ b. first_values s k (input_bits q b))
+    → StandsFor nodes n (λ a. node_function s k (input_bits q (bits_in q a)))
+    → AreNumbersOf q nodes (numbers ++ n ∷ []) (λ b. first_values s (k + 1) (input_bits q b))
+nodes_more q s nodes numbers n k low are stands =
     numbers-same q nodes (numbers ++ n ∷ [])
-    (λ b. first_values v.graph k (input_bits q b) ++ node_function v.graph k (input_bits q b) ∷ [])
-    (λ b. first_values v.graph (k + 1) (input_bits q b))
-    (λ b size. sym (values_more v.graph k (input_bits q b) low))
-    (numbers-push q nodes numbers n (λ b. first_values v.graph k (input_bits q b)) (λ b. node_function v.graph k (input_bits q b)) are stands)
+    (λ b. first_values s k (input_bits q b) ++ node_function s k (input_bits q b) ∷ [])
+    (λ b. first_values s (k + 1) (input_bits q b))
+    (λ b size. sym (values_more s k (input_bits q b) low))
+    (numbers-push q nodes numbers n (λ b. first_values s k (input_bits q b)) (λ b. node_function s k (input_bits q b)) are stands)
 
 -- ---- outputs
 
-pub sig_placed : (v : ComparedView) → IsReady v → (nodes : List Triple) (bits numbers : List ℕ) (i : ℕ) (d : Sig) → i < length v.graph.outputs
-    → AreNumbersOf (comparison v) nodes bits (λ b. b)
-    → AreNumbersOf (comparison v) nodes numbers (λ b. first_values v.graph (length v.graph.nodes) (input_bits (comparison v) b))
-    → IsKnownSig (length bits) (length numbers) (get_or v.graph.outputs i d)
-sig_placed v ready nodes bits numbers i d low of_bits of_nodes =
-    sig_more v.graph.inputs (length bits) (length v.graph.nodes) (length numbers) (get_or v.graph.outputs i d)
-    (omega (arith, many_bits (comparison v) nodes bits of_bits, ready.inputs))
-    (omega (arith, many_nodes v nodes numbers (length v.graph.nodes) (omega arith) of_nodes))
-    (AllByRecursion-at (IsKnownSig v.graph.inputs (length v.graph.nodes)) v.graph.outputs i d ready.settled.outputs low)
+pub sig_placed : (q : Comparison) (s : SettledView) → HoldsNodesOf q s → (nodes : List Triple) (bits numbers : List ℕ) (i : ℕ) (d : Sig)
+    → i < length s.outputs → AreNumbersOf q nodes bits (λ b. b)
+    → AreNumbersOf q nodes numbers (λ b. first_values s (length s.nodes) (input_bits q b))
+    → IsKnownSig (length bits) (length numbers) (get_or s.outputs i d)
+sig_placed q s holds nodes bits numbers i d low of_bits of_nodes =
+    sig_more s.inputs (length bits) (length s.nodes) (length numbers) (get_or s.outputs i d)
+    (omega (arith, many_bits q nodes bits of_bits, holds.inputs))
+    (omega (arith, many_nodes q s nodes numbers (length s.nodes) (omega arith) of_nodes))
+    (AllByRecursion-at (IsKnownSig s.inputs (length s.nodes)) s.outputs i d holds.settled.outputs low)
 
-pub outputs_more : (v : ComparedView) → IsReady v → (nodes : List Triple) (bits numbers outputs : List ℕ) (n i : ℕ) (d : Sig)
-    → i < length v.graph.outputs → AreNumbersOf (comparison v) nodes bits (λ b. b)
-    → AreNumbersOf (comparison v) nodes numbers (λ b. first_values v.graph (length v.graph.nodes) (input_bits (comparison v) b))
-    → StandsFor nodes n (sig_function_of nodes bits numbers (get_or v.graph.outputs i d))
-    → AreNumbersOf (comparison v) nodes outputs (λ b. map (settled_value v.graph (input_bits (comparison v) b)) (take i v.graph.outputs))
-    → AreNumbersOf (comparison v) nodes (outputs ++ n ∷ [])
-    (λ b. map (settled_value v.graph (input_bits (comparison v) b)) (take (i + 1) v.graph.outputs))
-outputs_more v ready nodes bits numbers outputs n i d low of_bits of_nodes stands are =
-    let q = comparison v in
-    let sig : Sig = get_or v.graph.outputs i d in
-    let known = AllByRecursion-at (IsKnownSig v.graph.inputs (length v.graph.nodes)) v.graph.outputs i d ready.settled.outputs low in
+pub outputs_more : (q : Comparison) (s : SettledView) → HoldsNodesOf q s → (nodes : List Triple) (bits numbers outputs : List ℕ) (n i : ℕ) (d : Sig)
+    → i < length s.outputs → AreNumbersOf q nodes bits (λ b. b)
+    → AreNumbersOf q nodes numbers (λ b. first_values s (length s.nodes) (input_bits q b))
+    → StandsFor nodes n (sig_function_of nodes bits numbers (get_or s.outputs i d))
+    → AreNumbersOf q nodes outputs (λ b. map (settled_value s (input_bits q b)) (take i s.outputs))
+    → AreNumbersOf q nodes (outputs ++ n ∷ []) (λ b. map (settled_value s (input_bits q b)) (take (i + 1) s.outputs))
+outputs_more q s holds nodes bits numbers outputs n i d low of_bits of_nodes stands are =
+    let sig : Sig = get_or s.outputs i d in
+    let known = AllByRecursion-at (IsKnownSig s.inputs (length s.nodes)) s.outputs i d holds.settled.outputs low in
     numbers-same q nodes (outputs ++ n ∷ [])
-    (λ b. map (settled_value v.graph (input_bits q b)) (take i v.graph.outputs) ++ settled_value v.graph (input_bits q b) sig ∷ [])
-    (λ b. map (settled_value v.graph (input_bits q b)) (take (i + 1) v.graph.outputs))
-    (λ b size. sym (ap (map (settled_value v.graph (input_bits q b))) (take_more v.graph.outputs i d low)
-    ∙ map-append (settled_value v.graph (input_bits q b)) (take i v.graph.outputs) (sig ∷ [])))
-    (numbers-push q nodes outputs n (λ b. map (settled_value v.graph (input_bits q b)) (take i v.graph.outputs))
-    (λ b. settled_value v.graph (input_bits q b) sig) are
-    (StandsFor-same nodes n (sig_function_of nodes bits numbers sig) (λ a. settled_value v.graph (input_bits q (bits_in q a)) sig)
-    (sig_is q v.graph nodes bits numbers sig ready.inputs known of_bits of_nodes) stands))
+    (λ b. map (settled_value s (input_bits q b)) (take i s.outputs) ++ settled_value s (input_bits q b) sig ∷ [])
+    (λ b. map (settled_value s (input_bits q b)) (take (i + 1) s.outputs))
+    (λ b size. sym (ap (map (settled_value s (input_bits q b))) (take_more s.outputs i d low)
+    ∙ map-append (settled_value s (input_bits q b)) (take i s.outputs) (sig ∷ [])))
+    (numbers-push q nodes outputs n (λ b. map (settled_value s (input_bits q b)) (take i s.outputs))
+    (λ b. settled_value s (input_bits q b) sig) are
+    (StandsFor-same nodes n (sig_function_of nodes bits numbers sig) (λ a. settled_value s (input_bits q (bits_in q a)) sig)
+    (sig_is q s nodes bits numbers sig holds.inputs known of_bits of_nodes) stands))
 
-pub all_outputs : (v : ComparedView) (nodes : List Triple) (outputs : List ℕ) (i : ℕ) → length v.graph.outputs ≤ i
-    → AreNumbersOf (comparison v) nodes outputs (λ b. map (settled_value v.graph (input_bits (comparison v) b)) (take i v.graph.outputs))
-    → AreNumbersOf (comparison v) nodes outputs (λ b. settled_outputs v.graph (input_bits (comparison v) b))
-all_outputs v nodes outputs i most are =
-    let q = comparison v in
-    numbers-same q nodes outputs (λ b. map (settled_value v.graph (input_bits q b)) (take i v.graph.outputs))
-    (λ b. settled_outputs v.graph (input_bits q b))
-    (λ b size. ap (map (settled_value v.graph (input_bits q b))) (take_all i v.graph.outputs most)) are
+pub all_outputs : (q : Comparison) (s : SettledView) (nodes : List Triple) (outputs : List ℕ) (i : ℕ) → length s.outputs ≤ i
+    → AreNumbersOf q nodes outputs (λ b. map (settled_value s (input_bits q b)) (take i s.outputs))
+    → AreNumbersOf q nodes outputs (λ b. settled_outputs s (input_bits q b))
+all_outputs q s nodes outputs i most are =
+    numbers-same q nodes outputs (λ b. map (settled_value s (input_bits q b)) (take i s.outputs))
+    (λ b. settled_outputs s (input_bits q b))
+    (λ b size. ap (map (settled_value s (input_bits q b))) (take_all i s.outputs most)) are
+
+-- there are as many numbers of outputs as outputs
+pub many_outputs : (q : Comparison) (s : SettledView) (nodes : List Triple) (outputs : List ℕ)
+    → AreNumbersOf q nodes outputs (λ b. settled_outputs s (input_bits q b)) → length outputs ≡ length s.outputs
+many_outputs q s nodes outputs are =
+    length-numbers q nodes outputs (λ b. settled_outputs s (input_bits q b)) (λ i. false) are
+    ∙ length-map s.outputs (settled_value s (input_bits q (bits_in q (λ i. false))))
 
 -- ---- lines
 
@@ -252,13 +279,12 @@ bit_answered q variables i first old new r comparable are low before made =
     let held = held_bit_of q comparable.lines i low in
     answered q held.holder (variable_at (get_or variables i 0)) first old new r comparable held.is (variable_held q variables i held are low) before made
 
-pub node_answered : (v : ComparedView) → IsReady v → (bits numbers : List ℕ) (k : ℕ) (node : Node) (first old new : DiagramView)
-    (r : Result ℕ DdFault) → IsReached v old.nodes bits numbers k node → GrowsBy (comparison v) first old
-    → Computes (node_function_of old.nodes bits numbers node) old new r
-    → IsAnswered (comparison v) (node_function_of old.nodes bits numbers node) first new
-node_answered v ready bits numbers k node first old new r is before made =
-    answered (comparison v) (Step k) (node_function_of old.nodes bits numbers node) first old new r ready.comparable is.low
-    (node_held v ready old.nodes bits numbers k node is) before made
+pub node_answered : (q : Comparison) (s : SettledView) → IsComparable q → (holds : HoldsNodesOf q s) (bits numbers : List ℕ) (k : ℕ) (node : Node)
+    (first old new : DiagramView) (r : Result ℕ DdFault) → IsReached q s old.nodes bits numbers k node → GrowsBy q first old
+    → Computes (node_function_of old.nodes bits numbers node) old new r → IsAnswered q (node_function_of old.nodes bits numbers node) first new
+node_answered q s comparable holds bits numbers k node first old new r is before made =
+    answered q (holds.holder k) (node_function_of old.nodes bits numbers node) first old new r comparable (holds.held k is.low)
+    (node_held q s holds old.nodes bits numbers k node is) before made
 
 pub gate_answered : (v : ComparedView) → IsReady v → (lines : List ℕ) (k target : ℕ) (gate : GateView) (first old new : DiagramView)
     (r : Result ℕ DdFault) → k < length v.circuit.gates → get_or v.circuit.gates k gate ≡ gate → gate.op ≡ Flip target
@@ -272,15 +298,7 @@ gate_answered v ready lines k target gate first old new r low at flips are befor
 
 -- ---- the ends
 
--- there are as many numbers of outputs as outputs
-pub many_outputs : (v : ComparedView) (nodes : List Triple) (outputs : List ℕ)
-    → AreNumbersOf (comparison v) nodes outputs (λ b. settled_outputs v.graph (input_bits (comparison v) b)) → length outputs ≡ length v.graph.outputs
-many_outputs v nodes outputs are =
-    let q = comparison v in
-    length-numbers q nodes outputs (λ b. settled_outputs v.graph (input_bits q b)) (λ i. false) are
-    ∙ length-map v.graph.outputs (settled_value v.graph (input_bits q (bits_in q (λ i. false))))
-
--- and of what the output lines hold
+-- there are as many numbers of what the output lines hold as output lines
 pub length-output_bits : (q : Comparison) (bits : List Bool) → length bits ≡ variables_in q → length (output_bits q bits) ≡ output_lines q
 length-output_bits q bits size =
     length-held_by q.placing (output_lines q) q.borrow (drop (inputs_in q) bits) (length-drop (inputs_in q) bits ∙ omega (arith, size))
@@ -371,7 +389,7 @@ wanted_is v nodes held outputs k is low are = λ a.
     let many : length out ≡ length v.graph.outputs = length-map v.graph.outputs (settled_value v.graph (input_bits q bits)) in
     ap₂ xor
     (bit-at nodes held k a (omega (arith, low, many_added v nodes held is are.held_are)) ∙ ap (λ (z : List Bool). bit_of z k) (are.held_are.same a))
-    (bit-at nodes outputs k a (omega (arith, low, many_outputs v nodes outputs are.outputs_are))
+    (bit-at nodes outputs k a (omega (arith, low, many_outputs (comparison v) v.graph nodes outputs are.outputs_are))
     ∙ ap (λ (z : List Bool). bit_of z k) (are.outputs_are.same a))
     ∙ sym (get_or-zip2 xor now out k false false false (omega (arith, low, wide)) (omega (arith, low, many)))
 
@@ -486,15 +504,20 @@ length-wanted v ready bits size =
       ready.comparable.lines,
     )
 
+pub length-ended : (v : ComparedView) → IsReady v → (bits : List Bool) → length bits ≡ variables_in (comparison v)
+    → length (line_map v.circuit.gates (start_on (comparison v) bits)) ≡ v.circuit.lines
+length-ended v ready bits size =
+    let start : List Bool = start_on (comparison v) bits in
+    let long : length start ≡ v.circuit.lines = length-start_on (comparison v) bits ready.comparable.lines size in
+    length-line_map v.circuit.gates start (subst (λ (n : ℕ). AreGatesOn n v.circuit.gates) (sym long) ready.gates) ∙ long
+
 pub ends_many : (v : ComparedView) → IsReady v → (nodes : List Triple) (now want : List ℕ) → AreEnds (comparison v) nodes now want
     → (length now ≡ v.circuit.lines) × (length want ≡ v.circuit.lines)
 ends_many v ready nodes now want ends =
     let q = comparison v in
-    let a : Assignment = λ i. false in
-    let start : List Bool = start_on q (bits_in q a) in
-    let long : length start ≡ v.circuit.lines = length-start_on q (bits_in q a) ready.comparable.lines (length-bits_in q a) in (
+    let a : Assignment = λ i. false in (
       length-numbers q nodes now (λ b. line_map q.circuit.gates (start_on q b)) a ends.now_are
-          ∙ length-line_map q.circuit.gates start (subst (λ (n : ℕ). AreGatesOn n q.circuit.gates) (sym long) ready.gates) ∙ long,
+          ∙ length-ended v ready (bits_in q a) (length-bits_in q a),
       length-numbers q nodes want (wanted_on q) a ends.want_are ∙ length-wanted v ready (bits_in q a) (length-bits_in q a),
     )
 

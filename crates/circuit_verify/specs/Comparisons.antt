@@ -1,18 +1,19 @@
 -- A circuit beside the program that it is to compute, and what it is for the two to agree.
-use Rattle.std.specs.Prelude.{ℕ, ◌+◌, ◌-◌, ◌≡◌, Bool, List, ◌++◌, length, sum, take, drop, map}
-use Rattle.list_facts.specs.Bits.{zeros}
+use Rattle.std.specs.Prelude.{ℕ, ◌+◌, ◌-◌, ◌≡◌, Bool, true, List, ◌++◌, length, sum, take, drop, map, ⊤}
+use Rattle.list_facts.specs.Bits.{bit_of, zeros}
 use Rattle.list_facts.specs.Lists.{below}
 use Rattle.revs_tape.specs.Measures.{outputs_of, writes_of}
 use Rattle.revs_tape.specs.Tapes.{TapeView, outputs_on}
 use Rattle.revs_tape.specs.VariableOrders.{variable_order}
 use Rattle.claim_check.specs.Measures.{node_function, write_function}
 use Rattle.claim_check.specs.Settled.{SettledView, settled_outputs}
-use Rattle.mct_circuit.specs.Gates.{CircuitView}
+use Rattle.mct_circuit.specs.Gates.{CircuitView, GateView}
 use Rattle.circuit_plans.specs.declared.roles.Placing.{Placing}
 use Rattle.circuit_plans.specs.declared.roles.Placing.TheVariants.{Added, InPlace}
 use Rattle.circuit_plans.specs.declared.roles.Roles.{Roles}
+use Rattle.circuit_plans.specs.declared.roles.Start.{Start}
 use Rattle.circuit_plans.specs.declared.roles.Start.TheVariants.{Any, Zero}
-use Rattle.circuit_plans.specs.Plans.{PlacesOutputs, added}
+use Rattle.circuit_plans.specs.Plans.{AddsOutput, MayHold, ReplacesInput, added}
 
 -- ---- programs
 
@@ -43,18 +44,34 @@ of_tape t = record {
   value = outputs_on t;
 }
 
--- a circuit, the program that it is to compute, where it puts the outputs, and how many of its
--- lines are borrowed
+-- a circuit, the program that it is to compute, what is assumed of the inputs, where the circuit
+-- puts the outputs, and how many of its lines are borrowed; the premise is a program of one
+-- output
 pub record Comparison : Type 0 where
   pub program : Specification
+  pub premise : Specification
   pub circuit : CircuitView
   pub placing : Placing
   pub borrow : ℕ
 
--- a program beside a circuit, which puts the outputs there, with so many borrowed lines
-abbrev pub beside : Specification → CircuitView → Placing → ℕ → Comparison
-beside program circuit placing borrow =
-    record { program = program; circuit = circuit; placing = placing; borrow = borrow }
+-- a program, under a premise, beside a circuit, which puts the outputs there, with so many
+-- borrowed lines
+abbrev pub beside : Specification → Specification → CircuitView → Placing → ℕ → Comparison
+beside program premise circuit placing borrow = record {
+  program = program;
+  premise = premise;
+  circuit = circuit;
+  placing = placing;
+  borrow = borrow;
+}
+
+-- ---- inputs that are looked at: those on which the output of the premise is 1
+
+abbrev pub looked_by : Specification → List Bool → Bool
+looked_by premise input = bit_of (premise.value input) 0
+
+abbrev pub looked : Comparison → List Bool → Bool
+looked q input = looked_by q.premise input
 
 -- ---- lines: those of the inputs come first, then the output lines, the work lines and the
 -- borrowed ones
@@ -86,11 +103,39 @@ roles_in q = record {
   borrowed = q.borrow;
 }
 
--- on every input, whatever the output lines hold that they may, and whatever the borrowed lines
--- hold, the circuit puts the program's outputs where they belong, and leaves all other lines as
--- they were, the work lines at 0
+-- the program has an output for each output line, and on every input that is looked at, whatever
+-- the output lines hold that they may, and whatever the borrowed lines hold, the gates add its
+-- value to the output lines, and leave all other lines as they are
+pub record AddsLooked (looks : List Bool → Bool) (start : Start) (roles : Roles)
+    (gates : List GateView) (value : List Bool → List Bool) : Type 0 where
+  pub size : (input : List Bool) → length input ≡ roles.inputs
+      → length (value input) ≡ roles.outputs
+  pub adds : (input held borrowed : List Bool) → length input ≡ roles.inputs → looks input ≡ true
+      → length held ≡ roles.outputs → MayHold start held → length borrowed ≡ roles.borrowed
+      → AddsOutput roles gates input held (value input) borrowed
+
+-- the program has an output for each input line and each output line, and on every input that is
+-- looked at, whatever the borrowed lines hold, the gates put its value on these lines, and leave
+-- all others as they are
+pub record ReplacesLooked (looks : List Bool → Bool) (roles : Roles) (gates : List GateView)
+    (value : List Bool → List Bool) : Type 0 where
+  pub size : (input : List Bool) → length input ≡ roles.inputs
+      → length (value input) ≡ roles.inputs + roles.outputs
+  pub replaces : (input borrowed : List Bool) → length input ≡ roles.inputs
+      → looks input ≡ true → length borrowed ≡ roles.borrowed
+      → ReplacesInput roles gates input (value input) borrowed
+
+-- on every input that is looked at, the gates put the outputs there
+abbrev pub PlacesLooked : (List Bool → Bool) → Placing → Roles → List GateView
+    → (List Bool → List Bool) → Type 0
+PlacesLooked looks (Added start) roles gates value = AddsLooked looks start roles gates value
+PlacesLooked looks InPlace roles gates value = ReplacesLooked looks roles gates value
+
+-- on every input that is looked at, whatever the output lines hold that they may, and whatever the
+-- borrowed lines hold, the circuit puts the program's outputs where they belong, and leaves all
+-- other lines as they were, the work lines at 0
 abbrev pub Agrees : Comparison → Type 0
-Agrees q = PlacesOutputs q.placing (roles_in q) q.circuit.gates q.program.value
+Agrees q = PlacesLooked (looked q) q.placing (roles_in q) q.circuit.gates q.program.value
 
 -- ---- variables: the inputs in their order, then the output lines where they may hold any bits,
 -- and then the borrowed lines
@@ -121,6 +166,10 @@ order_in q =
 abbrev pub input_bits : Comparison → List Bool → List Bool
 input_bits q bits = take (inputs_in q) bits
 
+-- whether the input of the bits is looked at
+abbrev pub looked_on : Comparison → List Bool → Bool
+looked_on q bits = looked q (input_bits q bits)
+
 -- what the output lines hold before the gates, by the bits behind those of the inputs
 abbrev pub held_by : Placing → ℕ → List Bool → List Bool
 held_by (Added Any) lines behind = take lines behind
@@ -143,6 +192,11 @@ start_on q bits =
 abbrev pub put_by : Placing → (input held outputs : List Bool) → List Bool
 put_by (Added start) input held outputs = input ++ added held outputs
 put_by InPlace input held outputs = outputs
+
+-- the outputs are added to what the output lines hold
+abbrev pub IsAdded : Placing → Type 0
+IsAdded (Added start) = ⊤
+IsAdded InPlace = ⊥
 
 abbrev pub wanted_ports : Comparison → List Bool → List Bool
 wanted_ports q bits =

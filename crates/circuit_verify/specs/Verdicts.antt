@@ -1,5 +1,5 @@
 -- What is said of a circuit that is compared with a program.
-use Rattle.std.specs.Prelude.{◌≡◌, ℕ, ◌<◌, ◌≤◌, Bool, List, ⊤}
+use Rattle.std.specs.Prelude.{◌≡◌, ℕ, ◌<◌, ◌≤◌, Bool, true, List, ⊤}
 use Rattle.list_facts.specs.Bits.{bit_of}
 use Rattle.list_facts.specs.Lists.{IsFirstWithout}
 use Rattle.revs_tape.specs.Tapes.{TapeView}
@@ -15,7 +15,7 @@ use Rattle.circuit_verify.specs.declared.fault.VerifyFault.TheVariants as faults
 use Rattle.circuit_plans.specs.declared.roles.Placing.{Placing}
 use Rattle.circuit_plans.specs.declared.roles.Placing.TheVariants.{Added, InPlace}
 use Rattle.circuit_verify.specs.Comparisons.{Comparison, Agrees, AreBitsFor, beside, inputs_in, least_lines}
-use Rattle.circuit_verify.specs.Comparisons.{of_settled, of_tape, order_in, start_on, wanted_on}
+use Rattle.circuit_verify.specs.Comparisons.{looked_on, of_settled, of_tape, order_in, start_on, wanted_on}
 use Rattle.circuit_verify.specs.LineFunctions.{HasMore}
 
 -- ---- what can be compared
@@ -63,18 +63,23 @@ abbrev pub IsRightOn : Comparison → ℕ → List Bool → Type 0
 IsRightOn q line bits =
     bit_of (line_map q.circuit.gates (start_on q bits)) line ≡ bit_of (wanted_on q bits) line
 
--- a line always ends with the bit that it should have
+-- these are bits for the variables, and their input is looked at
+abbrev pub AreLookedBits : Comparison → List Bool → Type 0
+AreLookedBits q bits = AreBitsFor q bits × (looked_on q bits ≡ true)
+
+-- wherever the input is looked at, a line ends with the bit that it should have
 abbrev pub IsRight : Comparison → ℕ → Type 0
-IsRight q line = (bits : List Bool) → AreBitsFor q bits → IsRightOn q line bits
+IsRight q line = (bits : List Bool) → AreLookedBits q bits → IsRightOn q line bits
 
 -- This line, counted from 0, is the first that is not always right, and these bits are the least on
--- which it is not, in the order of the variables and false before true.
+-- which it is not, in the order of the variables and false before true, of those whose input is
+-- looked at.
 pub record DiffersFirst (q : Comparison) (line : ℕ) (bits : List Bool) : Type 0 where
   pub in_range : line < q.circuit.lines
   pub before : (earlier : ℕ) → earlier < line → IsRight q earlier
-  pub are_bits : AreBitsFor q bits
+  pub are_bits : AreLookedBits q bits
   pub differs : ¬ IsRightOn q line bits
-  pub least : (other : List Bool) → AreBitsFor q other → IsBefore (order_in q) other bits
+  pub least : (other : List Bool) → AreLookedBits q other → IsBefore (order_in q) other bits
       → IsRightOn q line other
 
 -- ---- verdicts
@@ -113,22 +118,27 @@ pub record EndsInOneWay (q : Comparison) : Type 0 where
 abbrev pub ComparisonsEndInOneWay : Type 0
 ComparisonsEndInOneWay = (q : Comparison) → EndsInOneWay q
 
--- what is said of the settled graph of a tape is said of the tape
-pub record IsSaidOfTape (t : TapeView) (s : SettledView) (c : CircuitView) (placing : Placing)
-    (borrow limit : ℕ) : Type 0 where
+-- what is said of the settled graphs of two tapes is said of the tapes
+pub record IsSaidOfTapes (t a : TapeView) (s g : SettledView) (c : CircuitView)
+    (placing : Placing) (borrow limit : ℕ) : Type 0 where
   pub not_comparable : (why : NotComparable)
-      → IsNotComparable (beside (of_settled t.params s) c placing borrow) why
-      → IsNotComparable (beside (of_tape t) c placing borrow) why
-  pub comparable : IsComparable (beside (of_settled t.params s) c placing borrow)
-      → IsComparable (beside (of_tape t) c placing borrow)
-  pub verified : IsVerified (beside (of_settled t.params s) c placing borrow)
-      → IsVerified (beside (of_tape t) c placing borrow)
+      → IsNotComparable
+      (beside (of_settled t.params s) (of_settled t.params g) c placing borrow) why
+      → IsNotComparable (beside (of_tape t) (of_tape a) c placing borrow) why
+  pub comparable : IsComparable
+      (beside (of_settled t.params s) (of_settled t.params g) c placing borrow)
+      → IsComparable (beside (of_tape t) (of_tape a) c placing borrow)
+  pub verified : IsVerified
+      (beside (of_settled t.params s) (of_settled t.params g) c placing borrow)
+      → IsVerified (beside (of_tape t) (of_tape a) c placing borrow)
   pub refused : (fault : VerifyFault)
-      → IsVerifyFault (beside (of_settled t.params s) c placing borrow) limit fault
-      → IsVerifyFault (beside (of_tape t) c placing borrow) limit fault
+      → IsVerifyFault
+      (beside (of_settled t.params s) (of_settled t.params g) c placing borrow) limit fault
+      → IsVerifyFault (beside (of_tape t) (of_tape a) c placing borrow) limit fault
 
--- The law: what is said of settled graphs is said of their tapes, whose steps are the writes.
+-- The law: what is said of settled graphs, of a program and of a premise, is said of their
+-- tapes, whose steps are the writes.
 abbrev pub SaidOfTapes : Type 0
-SaidOfTapes = (t : TapeView) (s : SettledView) → IsSettledOf t s
+SaidOfTapes = (t a : TapeView) (s g : SettledView) → IsSettledOf t s → IsSettledOf a g
     → (c : CircuitView) (placing : Placing) (borrow limit : ℕ)
-    → IsSaidOfTape t s c placing borrow limit
+    → IsSaidOfTapes t a s g c placing borrow limit

@@ -1,4 +1,4 @@
-// A circuit beside the settled graph that it is to compute.
+// A circuit beside the settled graphs of what it is to compute and of what is assumed.
 ghost use Rattle.std.specs.Prelude.{◌≡◌, ◌≤◌, ◌<◌, ◌+◌, length, sum, IfErr, IfOk};
 ghost use Rattle.std.specs.Prelude.{IsFalse, IsTrue};
 ghost use Rattle.revs_tape.specs.Tapes.{AreWidths};
@@ -17,12 +17,14 @@ use claim_check::Settled;
 use mct_circuit::Circuit;
 use std::marker::Model;
 
-/// A settled graph with the widths of its parameters, and a circuit of narrow gates that has enough
-/// lines.
+/// A settled graph with the widths of its parameters, what is assumed of its inputs, and a circuit
+/// of narrow gates that has enough lines.
 #[derive(Drop)]
 pub struct Compared<'s> {
     /// What the circuit is to compute.
     pub graph: &'s Settled,
+    /// The inputs that are looked at: those on which the one output of this graph is 1.
+    pub premise: &'s Settled,
     /// The widths of its parameters.
     pub params: &'s [u32],
     /// The circuit.
@@ -38,6 +40,7 @@ impl<'s> Model for Compared<'s> {
 
     ghost view = { λ c. record {
       graph = c.graph.now;
+      premise = c.premise.now;
       params = c.params.now;
       circuit = c.circuit.now;
       placing = c.placing;
@@ -46,6 +49,7 @@ impl<'s> Model for Compared<'s> {
 
     ghost invariant = { λ c. IsReady (record {
       graph = c.graph.now;
+      premise = c.premise.now;
       params = c.params.now;
       circuit = c.circuit.now;
       placing = c.placing;
@@ -56,7 +60,8 @@ impl<'s> Model for Compared<'s> {
 impl<'s> Compared<'s> {
     /// A circuit beside the settled graph whose outputs it is to put where `placing` says, with
     /// parameters of these widths: its lines are those of the inputs, then the output lines, then
-    /// the work lines, then the last `borrow` lines, which may hold anything. It takes no memory.
+    /// the work lines, then the last `borrow` lines, which may hold anything. Only inputs are
+    /// looked at on which the one output of `premise` is 1. It takes no memory.
     ///
     /// # Errors
     ///
@@ -65,6 +70,7 @@ impl<'s> Compared<'s> {
     /// flip with at most two controls, all positive.
     pub fn of(
         graph: &'s Settled,
+        premise: &'s Settled,
         params: &'s [u32],
         circuit: &'s Circuit,
         placing: Placing,
@@ -72,9 +78,12 @@ impl<'s> Compared<'s> {
     ) -> Result<Compared<'s>, NotComparable>
         requires widths { AreWidths params.now }
         requires inputs { sum params.now ≡ graph.now.inputs }
+        requires assumed { premise.now.inputs ≡ graph.now.inputs }
+        requires output { length premise.now.outputs ≡ 1 }
         requires borrow { borrow ≤ MOST_BORROWED }
         ensures made { IfOk result (λ compared. compared ≡ record {
           graph = graph.now;
+          premise = premise.now;
           params = params.now;
           circuit = circuit.now;
           placing = placing;
@@ -82,8 +91,10 @@ impl<'s> Compared<'s> {
         }) }
         ensures ready { IfOk result IsReady }
         ensures refused { IfErr result (IsNotComparable
-            (beside (of_settled params.now graph.now) circuit.now placing borrow)) }
+            (beside (of_settled params.now graph.now) (of_settled params.now premise.now)
+            circuit.now placing borrow)) }
     {
+        let _ = premise.inputs(); // shows what is known of it
         let (inputs, outputs) = (graph.inputs(), graph.outputs().len() as u32);
         if are_few(placing, inputs, outputs) {
             return Err(NotComparable::Outputs { inputs, outputs });
@@ -97,6 +108,7 @@ impl<'s> Compared<'s> {
         }
         Ok(Compared {
             graph,
+            premise,
             params,
             circuit,
             placing,

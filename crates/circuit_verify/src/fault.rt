@@ -22,12 +22,12 @@ pub enum NotComparable {
 /// Why a circuit that can be compared is not verified against a program. Lines are counted from 0.
 #[derive(Debug, Drop)]
 pub enum VerifyFault {
-    /// The nodes of the program and the lines of the circuit have more functions than the limit
-    /// `nodes`, with their first variables fixed and without constants.
+    /// The nodes of the program and of the premise, and the lines of the circuit, have more
+    /// functions than the limit `nodes`, with their first variables fixed and without constants.
     Diagram { nodes: u32 },
-    /// The line is the first that ends with another bit than it should, and the bits are the least
-    /// on which it does, in the order of the variables. They are given parameter by parameter, and
-    /// then for the borrowed lines.
+    /// The line is the first that ends with another bit than it should on an input that is looked
+    /// at, and the bits are the least on which it does, in the order of the variables. They are
+    /// given parameter by parameter, and then for the borrowed lines.
     Differs { line: u32, bits: Bits },
     /// Want of memory.
     Memory(Memory),

@@ -7,7 +7,8 @@ ghost use Rattle.claim_check.specs.Variables.{AreVariables};
 ghost use Rattle.circuit_verify.specs.Comparisons.{order_in, variables_in};
 ghost use Rattle.circuit_verify.specs.Verdicts.{IsVerified, IsVerifyFault};
 ghost use Rattle.circuit_verify.specs.Compared.{comparison};
-ghost use Rattle.circuit_verify.specs.inside.Numbers.{AreEnds, DifferAt, HoldsLines, IsLeastApart};
+ghost use Rattle.circuit_verify.specs.inside.Numbers.{AreLookedEnds, DifferAt, HoldsLines};
+ghost use Rattle.circuit_verify.specs.inside.Numbers.{IsLeastApart};
 
 use crate::VerifyFault;
 use crate::compared::Compared;
@@ -63,7 +64,7 @@ pub fn judge(
     requires variables { AreVariables (variables_in (comparison compared.now))
         (order_in (comparison compared.now)) variables.now }
     requires holds { HoldsLines (comparison compared.now) diagram.now }
-    requires ends { AreEnds (comparison compared.now) diagram.now.nodes ends.now.now.items
+    requires ends { AreLookedEnds (comparison compared.now) diagram.now.nodes ends.now.now.items
         ends.now.want.items }
     ensures verified { OnOk result (IsVerified (comparison compared.now)) }
     ensures refused { IfErr result (IsVerifyFault (comparison compared.now) diagram.now.limit) }

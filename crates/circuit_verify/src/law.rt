@@ -7,8 +7,8 @@ pub fn comparisons_end_in_one_way()
     ensures { ComparisonsEndInOneWay }
 {}
 
-/// The law of tapes: what is said of the settled graph of a tape is said of the tape, whose steps
-/// are its writes.
+/// The law of tapes: what is said of the settled graphs of two tapes, of a program and of a
+/// premise, is said of the tapes, whose steps are their writes.
 pub fn said_of_tapes()
     ensures { SaidOfTapes }
 {}

@@ -1,8 +1,9 @@
-//! A circuit verified against a program, for every input and whatever its borrowed lines hold.
+//! A circuit verified against a program, for every input that is looked at and whatever its
+//! borrowed lines hold.
 //!
-//! The functions of the program and those of the circuit's lines are made in one decision diagram,
-//! one call for each gate. The circuit agrees exactly where each line ends with the number that it
-//! should have.
+//! The functions of the program, of the circuit's lines and of the premise are made in one
+//! decision diagram, one call for each gate. The circuit agrees exactly where each line ends with
+//! the number that it should have, once each is restricted to the inputs that are looked at.
 #![tactic(auto)]
 
 mod compared;
@@ -10,6 +11,7 @@ mod fault;
 mod gates;
 mod judging;
 mod law;
+mod looking;
 mod nodes;
 mod outputs;
 mod places;

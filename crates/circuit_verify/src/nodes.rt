@@ -1,4 +1,5 @@
-// The numbers of the nodes and the outputs of a settled graph.
+// The numbers of the nodes and the outputs of a settled graph, that of the program or that of the
+// premise.
 ghost use Rattle.std.specs.Prelude.{◌≡◌, ◌<◌, length, IfErr, IfOk};
 ghost use Rattle.dependency_graph.specs.Graphs.{IsKnownBase, IsKnownNode, IsKnownSig};
 ghost use Rattle.decision_diagram.specs.Growth.{Computes, StandsFor};
@@ -7,11 +8,12 @@ ghost use Rattle.circuit_verify.specs.Comparisons.{input_bits};
 ghost use Rattle.circuit_verify.specs.Verdicts.{IsVerifyFault};
 ghost use Rattle.circuit_verify.specs.Compared.{comparison};
 ghost use Rattle.circuit_verify.specs.inside.Numbers.{AreKnown, AreNumbersOf, GrowsBy, HoldsLines};
-ghost use Rattle.circuit_verify.specs.inside.Numbers.{base_number, first_values};
+ghost use Rattle.circuit_verify.specs.inside.Numbers.{HoldsNodesOf, base_number, first_values};
 ghost use Rattle.circuit_verify.specs.inside.Numbers.{node_function_of, sig_function_of};
 
 use crate::VerifyFault;
 use crate::compared::Compared;
+use claim_check::Settled;
 use decision_diagram::{Dd, DdFault, Diagram};
 use dependency_graph::{Base, Node, Sig};
 use revc_base::Memory;
@@ -47,25 +49,27 @@ fn node_number(diagram: &mut Diagram, bits: &[Dd], nodes: &[Dd], node: Node) -> 
 }
 
 // The number of each node, one after another.
-pub fn number_nodes(
+fn number_nodes(
     alloc: Global,
     diagram: &mut Diagram,
     compared: &Compared,
+    graph: &Settled,
     bits: &[Dd],
 ) -> Result<Vec<Dd>, VerifyFault>
     requires holds { HoldsLines (comparison compared.now) diagram.old }
+    requires graph { HoldsNodesOf (comparison compared.now) graph.now }
     requires bits { AreNumbersOf (comparison compared.now) diagram.old.nodes bits.now
         (λ bits. bits) }
     ensures grows { GrowsBy (comparison compared.now) diagram.old diagram.new }
     ensures numbers { IfOk result (λ nodes. AreNumbersOf (comparison compared.now)
-        diagram.new.nodes nodes.items (λ bits. first_values compared.now.graph
-        (length compared.now.graph.nodes) (input_bits (comparison compared.now) bits))) }
+        diagram.new.nodes nodes.items (λ bits. first_values graph.now (length graph.now.nodes)
+        (input_bits (comparison compared.now) bits))) }
     ensures refused { IfErr result (IsVerifyFault (comparison compared.now) diagram.new.limit) }
 {
     let _ = compared.variables(); // shows what is known of both
     let mut nodes = Vec::new(alloc);
-    for k in 0..compared.graph.nodes() {
-        let number = node_number(diagram, bits, &nodes, compared.graph.node(k))?;
+    for k in 0..graph.nodes() {
+        let number = node_number(diagram, bits, &nodes, graph.node(k))?;
         nodes.push(number)?;
     }
     Ok(nodes)
@@ -85,27 +89,52 @@ fn sig_number(diagram: &Diagram, bits: &[Dd], nodes: &[Dd], sig: Sig) -> Dd
     }
 }
 
-// The number of each output.
-pub fn number_outputs(
+// The number of each output, where the nodes have theirs.
+fn number_made(
     alloc: Global,
     diagram: &Diagram,
     compared: &Compared,
+    graph: &Settled,
     bits: &[Dd],
     nodes: &[Dd],
 ) -> Result<Vec<Dd>, Memory>
+    requires graph { HoldsNodesOf (comparison compared.now) graph.now }
     requires bits { AreNumbersOf (comparison compared.now) diagram.now.nodes bits.now
         (λ bits. bits) }
     requires nodes { AreNumbersOf (comparison compared.now) diagram.now.nodes nodes.now
-        (λ bits. first_values compared.now.graph (length compared.now.graph.nodes)
+        (λ bits. first_values graph.now (length graph.now.nodes)
         (input_bits (comparison compared.now) bits)) }
     ensures { IfOk result (λ outputs. AreNumbersOf (comparison compared.now) diagram.now.nodes
-        outputs.items (λ bits. settled_outputs compared.now.graph
-        (input_bits (comparison compared.now) bits))) }
+        outputs.items
+        (λ bits. settled_outputs graph.now (input_bits (comparison compared.now) bits))) }
 {
     let _ = compared.variables(); // shows what is known of both
     let mut outputs = Vec::new(alloc);
-    for sig in compared.graph.outputs() {
+    for sig in graph.outputs() {
         outputs.push(sig_number(diagram, bits, nodes, *sig))?;
     }
     Ok(outputs)
+}
+
+// The number of each output of a settled graph.
+pub fn number_outputs(
+    alloc: Global,
+    diagram: &mut Diagram,
+    compared: &Compared,
+    graph: &Settled,
+    bits: &[Dd],
+) -> Result<Vec<Dd>, VerifyFault>
+    requires holds { HoldsLines (comparison compared.now) diagram.old }
+    requires graph { HoldsNodesOf (comparison compared.now) graph.now }
+    requires bits { AreNumbersOf (comparison compared.now) diagram.old.nodes bits.now
+        (λ bits. bits) }
+    ensures grows { GrowsBy (comparison compared.now) diagram.old diagram.new }
+    ensures numbers { IfOk result (λ outputs. AreNumbersOf (comparison compared.now)
+        diagram.new.nodes outputs.items
+        (λ bits. settled_outputs graph.now (input_bits (comparison compared.now) bits))) }
+    ensures refused { IfErr result (IsVerifyFault (comparison compared.now) diagram.new.limit) }
+{
+    let _ = compared.variables(); // shows what is known of both
+    let nodes = number_nodes(alloc, diagram, compared, graph, bits)?;
+    Ok(number_made(alloc, diagram, compared, graph, bits, &nodes)?)
 }

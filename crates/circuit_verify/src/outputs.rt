@@ -3,15 +3,15 @@ ghost use Rattle.std.specs.Prelude.{◌≡◌, ◌≤◌, ◌++◌, length, IfEr
 ghost use Rattle.claim_check.specs.Settled.{settled_outputs};
 ghost use Rattle.circuit_plans.specs.Plans.{added};
 ghost use Rattle.circuit_verify.specs.Comparisons.{input_bits, output_bits, output_variables};
-ghost use Rattle.circuit_verify.specs.Comparisons.{wanted_ports};
+ghost use Rattle.circuit_verify.specs.Comparisons.{IsAdded, wanted_ports};
 ghost use Rattle.circuit_verify.specs.Verdicts.{IsVerifyFault};
 ghost use Rattle.circuit_verify.specs.Compared.{comparison};
 ghost use Rattle.circuit_verify.specs.inside.Numbers.{AreNumbersOf, GrowsBy, HoldsLines};
-ghost use Rattle.circuit_verify.specs.inside.Numbers.{IsAdded, first_ports, held_numbers};
+ghost use Rattle.circuit_verify.specs.inside.Numbers.{first_ports, held_numbers};
 
 use crate::VerifyFault;
 use crate::compared::Compared;
-use crate::nodes::{number_nodes, number_outputs};
+use crate::nodes::number_outputs;
 use circuit_plans::{Placing, Start};
 use decision_diagram::{Dd, Diagram};
 use revc_base::Memory;
@@ -164,8 +164,7 @@ pub fn port_numbers(
     ensures refused { IfErr result (IsVerifyFault (comparison compared.now) diagram.new.limit) }
 {
     let _ = compared.variables(); // shows what is known of both
-    let nodes = number_nodes(alloc, diagram, compared, bits)?;
-    let outputs = number_outputs(alloc, diagram, compared, bits, &nodes)?;
+    let outputs = number_outputs(alloc, diagram, compared, compared.graph, bits)?;
     let held = number_held(alloc, diagram, compared, bits)?;
     let (input, _) = bits.split_at(compared.inputs() as usize);
     let first = joined(alloc, input, &held)?;

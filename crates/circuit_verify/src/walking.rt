@@ -12,14 +12,11 @@ ghost use Rattle.circuit_verify.specs.inside.Numbers.{AreEnds, AreKnown, AreLaid
 ghost use Rattle.circuit_verify.specs.inside.Numbers.{AreNumbersOf, GrowsBy};
 ghost use Rattle.circuit_verify.specs.inside.Numbers.{HoldsLines, control_numbers};
 ghost use Rattle.circuit_verify.specs.inside.Numbers.{line_function_of};
-ghost use Rattle.claim_check.specs.Variables.{AreVariables};
-ghost use Rattle.circuit_verify.specs.Comparisons.{order_in, variables_in};
 
 use crate::VerifyFault;
 use crate::compared::Compared;
 use crate::gates::target_of;
 use crate::outputs::port_numbers;
-use crate::places::number_bits;
 use decision_diagram::{Dd, DdFault, Diagram};
 use mct_circuit::{Control, Gate};
 use std::alloc::{AllocError, Global};
@@ -120,27 +117,25 @@ fn walk(diagram: &mut Diagram, compared: &Compared, lines: &mut [Dd]) -> Result<
     Ok(())
 }
 
-// The numbers of the lines behind all gates, and those that they should have. All diagrams are made
-// before any two numbers are compared.
+// The numbers of the lines behind all gates, and those that they should have.
 pub fn ends_of(
     alloc: Global,
     diagram: &mut Diagram,
     compared: &Compared,
-    variables: &[u32],
+    bits: &[Dd],
 ) -> Result<Ends, VerifyFault>
-    requires variables { AreVariables (variables_in (comparison compared.now))
-        (order_in (comparison compared.now)) variables.now }
     requires holds { HoldsLines (comparison compared.now) diagram.old }
+    requires bits { AreNumbersOf (comparison compared.now) diagram.old.nodes bits.now
+        (λ bits. bits) }
     ensures grows { GrowsBy (comparison compared.now) diagram.old diagram.new }
     ensures ends { IfOk result (λ ends. AreEnds (comparison compared.now) diagram.new.nodes
         ends.now.items ends.want.items) }
     ensures refused { IfErr result (IsVerifyFault (comparison compared.now) diagram.new.limit) }
 {
     let _ = compared.variables(); // shows what is known of both
-    let bits = number_bits(alloc, diagram, compared, variables)?;
-    let ports = port_numbers(alloc, diagram, compared, &bits)?;
-    let want = laid(alloc, diagram, compared, &bits, &ports.wanted)?;
-    let mut now = laid(alloc, diagram, compared, &bits, &ports.first)?;
+    let ports = port_numbers(alloc, diagram, compared, bits)?;
+    let want = laid(alloc, diagram, compared, bits, &ports.wanted)?;
+    let mut now = laid(alloc, diagram, compared, bits, &ports.first)?;
     walk(diagram, compared, &mut now)?;
     Ok(Ends { now, want })
 }

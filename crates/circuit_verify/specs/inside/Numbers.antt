@@ -1,5 +1,5 @@
 -- The numbers of bits, nodes and lines in a diagram.
-use Rattle.std.specs.Prelude.{◌≡◌, ◌≢◌, ℕ, ◌<◌, ◌≤◌, Bool, true, List, [], ◌∷◌, ◌++◌, length, map, replicate, take, slice_index, ⊤}
+use Rattle.std.specs.Prelude.{◌≡◌, ◌≢◌, ℕ, ◌<◌, ◌≤◌, Bool, true, ◌&&◌, List, [], ◌∷◌, ◌++◌, length, map, replicate, take, slice_index}
 use Rattle.std.specs.List.{AllByRecursion}
 use Rattle.list_facts.specs.Bits.{bit_of, zeros}
 use Rattle.dependency_graph.specs.declared.node.Base.{Base}
@@ -10,7 +10,8 @@ use Rattle.dependency_graph.specs.Graphs.{made_by, node_bit, sig_bit}
 use Rattle.decision_diagram.specs.Diagrams.{DiagramView, IsCanonical, IsNumber, Triple, function_of}
 use Rattle.decision_diagram.specs.Functions.{AreSame, Assignment, Function, IsLeast}
 use Rattle.decision_diagram.specs.Growth.{KeepsNodes}
-use Rattle.claim_check.specs.Settled.{SettledView}
+use Rattle.claim_check.specs.Measures.{node_function}
+use Rattle.claim_check.specs.Settled.{SettledView, IsSettled}
 use Rattle.claim_check.specs.Variables.{bits_at, over}
 use Rattle.mct_circuit.specs.declared.gate.Control.{Control}
 use Rattle.mct_circuit.specs.Gates.{GateView, after_gate, line_map}
@@ -18,8 +19,8 @@ use Rattle.circuit_plans.specs.declared.roles.Placing.{Placing}
 use Rattle.circuit_plans.specs.declared.roles.Placing.TheVariants.{Added, InPlace}
 use Rattle.circuit_plans.specs.declared.roles.Start.TheVariants.{Any, Zero}
 use Rattle.circuit_verify.specs.Comparisons.{Comparison, order_in, start_on, variables_in, wanted_on}
-use Rattle.circuit_verify.specs.Comparisons.{borrowed_bits, input_bits, output_bits, work_lines}
-use Rattle.circuit_verify.specs.LineFunctions.{Holder, IsMember, LineFunction, held_bit, value_on}
+use Rattle.circuit_verify.specs.Comparisons.{borrowed_bits, input_bits, inputs_in, looked_on, output_bits, work_lines}
+use Rattle.circuit_verify.specs.LineFunctions.{Holder, IsHolder, IsMember, LineFunction, held_bit, value_on}
 
 -- ---- functions over the variables
 
@@ -50,6 +51,17 @@ pub record HoldsLines (q : Comparison) (d : DiagramView) : Type 0 where
 pub record GrowsBy (q : Comparison) (old now : DiagramView) : Type 0 where
   pub holds : HoldsLines q now
   pub kept : KeepsNodes old now
+
+-- ---- settled graphs
+
+-- a settled graph over the inputs of a comparison, each of whose nodes is held
+pub record HoldsNodesOf (q : Comparison) (s : SettledView) : Type 0 where
+  pub inputs : inputs_in q ≡ s.inputs
+  pub settled : IsSettled s
+  pub holder : ℕ → Holder
+  pub held : (k : ℕ) → k < length s.nodes → IsHolder q (holder k)
+  pub same : (k : ℕ) (bits : List Bool)
+      → held_bit q (holder k) bits ≡ node_function s k (input_bits q bits)
 
 -- ---- numbers
 
@@ -101,11 +113,6 @@ held_numbers (Added Any) lines never behind = take lines behind
 held_numbers (Added Zero) lines never behind = replicate lines never
 held_numbers InPlace lines never behind = replicate lines never
 
--- the outputs are added to what the output lines hold
-abbrev pub IsAdded : Placing → Type 0
-IsAdded (Added start) = ⊤
-IsAdded InPlace = ⊥
-
 -- the bits of the input lines and the output lines before the gates
 abbrev pub first_ports : Comparison → List Bool → List Bool
 first_ports q bits = input_bits q bits ++ output_bits q bits
@@ -127,6 +134,39 @@ pub record DifferAt (now want : List ℕ) (line : ℕ) : Type 0 where
 pub record AreEnds (q : Comparison) (nodes : List Triple) (now want : List ℕ) : Type 0 where
   pub now_are : AreNumbersOf q nodes now (λ bits. line_map q.circuit.gates (start_on q bits))
   pub want_are : AreNumbersOf q nodes want (wanted_on q)
+
+-- ---- bits that count only where the input is looked at
+
+-- a bit where the input is looked at, and 0 elsewhere
+abbrev pub where_looked : Comparison → List Bool → Bool → Bool
+where_looked q bits bit = bit && looked_on q bits
+
+abbrev pub looked_function : Comparison → Function
+looked_function q = over (variables_in q) (order_in q) (looked_on q)
+
+-- numbers of ends: a number for each line, whose bit is held where the input is looked at
+pub record AreLineEnds (q : Comparison) (nodes : List Triple) (numbers : List ℕ) : Type 0 where
+  pub value : List Bool → List Bool
+  pub are : AreNumbersOf q nodes numbers value
+  pub holder : ℕ → Holder
+  pub held : (line : ℕ) → line < length numbers → IsHolder q (holder line)
+  pub same : (line : ℕ) (bits : List Bool)
+      → held_bit q (holder line) bits ≡ where_looked q bits (bit_of (value bits) line)
+
+-- these stand for what those numbers stand for, where the input is looked at
+pub record AreRestricted (q : Comparison) (old new : List Triple) (numbers restricted : List ℕ)
+    : Type 0 where
+  pub known : AreKnown new restricted
+  pub same : (a : Assignment) → bits_under new restricted a
+      ≡ map (where_looked q (bits_in q a)) (bits_under old numbers a)
+
+-- the numbers of the lines behind all gates, and those that they should have, where the input is
+-- looked at
+pub record AreLookedEnds (q : Comparison) (nodes : List Triple) (now want : List ℕ) : Type 0 where
+  pub now_are : AreNumbersOf q nodes now
+      (λ bits. map (where_looked q bits) (line_map q.circuit.gates (start_on q bits)))
+  pub want_are : AreNumbersOf q nodes want
+      (λ bits. map (where_looked q bits) (wanted_on q bits))
 
 -- the bits are those of the least assignment at which the function is true
 pub record IsLeastApart (f : Function) (variables : List ℕ) (bits : List Bool) : Type 0 where

@@ -5,8 +5,8 @@ use Rattle.decision_diagram.specs.Functions.{exclusive_or}
 use Rattle.claim_check.specs.Settled.{settled_value}
 use Rattle.circuit_verify.specs.Compared.{comparison}
 use Rattle.circuit_verify.specs.inside.Numbers.{DifferAt, IsLeastApart}
+use Rattle.circuit_verify.proofs.LookedLemmas.{looked_many}
 use Rattle.circuit_verify.proofs.NumberLemmas.{known-at}
-use Rattle.circuit_verify.proofs.StepLemmas.{ends_many}
 use Rattle.circuit_verify.proofs.VerdictLemmas.{agrees, differs}
 use Rattle.circuit_verify.proofs.judging.judge.Goals as goal
 use Rattle.circuit_verify.proofs.judging.judge.Goals.{After-variables, In-Some, After-index-2}
@@ -15,7 +15,7 @@ use Rattle.circuit_verify.proofs.judging.judge.Goals.{After-variables, In-Some, 
 sizes : (c : After-variables) → (length c.args.ends.now.now.items ≡ c.args.compared.now.circuit.lines)
     × (length c.args.ends.now.want.items ≡ length c.args.ends.now.now.items)
 sizes c =
-    let many = ends_many c.args.compared.now c.variables.ensures.ready c.args.diagram.now.nodes c.args.ends.now.now.items c.args.ends.now.want.items
+    let many = looked_many c.args.compared.now c.variables.ensures.ready c.args.diagram.now.nodes c.args.ends.now.now.items c.args.ends.now.want.items
     c.requires.ends in (many.0, many.1 ∙ sym many.0)
 
 -- the line that was found

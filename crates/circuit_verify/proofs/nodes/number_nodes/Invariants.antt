@@ -7,4 +7,4 @@ abbrev pub invariant-loop-k : goal.invariant-loop-k
 invariant-loop-k l =
     GrowsBy (comparison l.compared) l.initial.diagram l.diagram
     × AreNumbersOf (comparison l.compared) l.diagram.nodes l.nodes.items
-    (λ bits. first_values l.compared.graph l.k (input_bits (comparison l.compared) bits))
+    (λ bits. first_values l.graph l.k (input_bits (comparison l.compared) bits))

@@ -1,42 +1,8 @@
-use Rattle.std.proofs.Common.{◌<◌, ◌+◌, ℕ, List, false, get_or, length, map, take, sym, subst, ap, arith, ◌∙◌}
-use Rattle.dependency_graph.specs.declared.node.Sig.{Sig}
-use Rattle.dependency_graph.specs.declared.node.Sig.TheVariants.{Const}
-use Rattle.dependency_graph.specs.Graphs.{IsKnownSig}
-use Rattle.decision_diagram.specs.Growth.{StandsFor}
-use Rattle.claim_check.specs.Settled.{settled_value}
-use Rattle.circuit_verify.specs.Comparisons.{input_bits}
-use Rattle.circuit_verify.specs.Compared.{ComparedView, comparison}
-use Rattle.circuit_verify.specs.inside.Numbers.{AreNumbersOf, sig_function_of}
-use Rattle.circuit_verify.proofs.StepLemmas.{all_outputs, outputs_more, sig_placed}
+use Rattle.circuit_verify.specs.Compared.{comparison}
+use Rattle.circuit_verify.proofs.NumberLemmas.{numbers-grown}
 use Rattle.circuit_verify.proofs.nodes.number_outputs.Goals as goal
 
-pub sig_number-requires-clause-known : goal.sig_number-requires-clause-known
-sig_number-requires-clause-known c =
-    let v = c.args.compared.now in
-    let i = c.loop-sig.sig-index in
-    let sigs = c.outputs-sig-items.ensures.outputs ∙ ap (λ (w : ComparedView). w.graph.outputs) c.compared.view_is in
-    let low : i < length v.graph.outputs = omega (arith, c.loop-sig-test.true, ap length sigs) in
-    subst (λ (xs : List Sig). IsKnownSig (length c.args.bits.now) (length c.args.nodes.now) (get_or xs i (Const false))) (sym sigs)
-    (sig_placed v c.variables.ensures.ready c.args.diagram.now.nodes c.args.bits.now c.args.nodes.now i (Const false) low c.requires.bits c.requires.nodes)
-
-pub loop-sig-preserved : goal.loop-sig-preserved
-loop-sig-preserved c =
-    let v = c.args.compared.now in
-    let q = comparison v in
-    let nodes = c.args.diagram.now.nodes in
-    let i = c.loop-sig.sig-index in
-    let sigs = c.outputs-sig-items.ensures.outputs ∙ ap (λ (w : ComparedView). w.graph.outputs) c.compared.view_is in
-    let low : i < length v.graph.outputs = omega (arith, c.loop-sig-test.true, ap length sigs) in
-    let stands = subst (λ (xs : List Sig). StandsFor nodes c.sig_number.result
-    (sig_function_of nodes c.args.bits.now c.args.nodes.now (get_or xs i (Const false)))) sigs c.sig_number.ensures in
-    subst (λ (ns : List ℕ). AreNumbersOf q nodes ns (λ b. map (settled_value v.graph (input_bits q b)) (take (i + 1) v.graph.outputs)))
-    (sym c.in_ok-push.ensures.items)
-    (outputs_more v c.variables.ensures.ready nodes c.args.bits.now c.args.nodes.now c.loop-sig.outputs.items c.sig_number.result i (Const false) low
-    c.requires.bits c.requires.nodes stands c.loop-sig.invariant)
-
-pub returns : goal.returns
-returns c =
-    let v = c.args.compared.now in
-    let sigs = c.outputs-sig-items.ensures.outputs ∙ ap (λ (w : ComparedView). w.graph.outputs) c.compared.view_is in
-    all_outputs v c.args.diagram.now.nodes c.loop-sig.outputs.items c.loop-sig.sig-index
-    (omega (arith, c.loop-sig-test.false, ap length sigs)) c.loop-sig.invariant
+pub number_made-requires-clause-bits : goal.number_made-requires-clause-bits
+number_made-requires-clause-bits c =
+    numbers-grown (comparison c.args.compared.now) c.args.diagram.now c.number_nodes.new.diagram c.number_nodes.ensures.grows.kept c.args.bits.now (λ b. b)
+    c.requires.bits

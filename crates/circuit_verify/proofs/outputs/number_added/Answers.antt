@@ -23,7 +23,7 @@ outputs_are c = record { held_are = c.requires.held; outputs_are = c.requires.ou
 low : (c : After-index-held-line) → (c.loop-line.line < length c.args.compared.now.graph.outputs) × (c.loop-line.line < length c.args.held.now)
 low c =
     let v = c.args.compared.now in
-    let many = many_outputs v c.args.diagram.now.nodes c.args.outputs.now c.requires.outputs in
+    let many = many_outputs (comparison v) v.graph c.args.diagram.now.nodes c.args.outputs.now c.requires.outputs in
     let held = many_added v c.args.diagram.now.nodes c.args.held.now c.requires.placing c.requires.held in
     (omega (arith, c.loop-line-test.true, many), omega (arith, c.loop-line-test.true, many, held))
 
@@ -51,7 +51,7 @@ bounds-held-line c =
     omega (
       arith,
       c.loop-line-test.true,
-      many_outputs v c.args.diagram.now.nodes c.args.outputs.now c.requires.outputs,
+      many_outputs (comparison v) v.graph c.args.diagram.now.nodes c.args.outputs.now c.requires.outputs,
       many_added v c.args.diagram.now.nodes c.args.held.now c.requires.placing c.requires.held,
     )
 
@@ -117,4 +117,5 @@ pub returns-clause-numbers : goal.returns-clause-numbers
 returns-clause-numbers c =
     let v = c.args.compared.now in
     all_wanted v c.loop-line.diagram.nodes c.loop-line.wanted.items c.loop-line.line c.requires.placing
-    (omega (arith, c.loop-line-test.false, many_outputs v c.args.diagram.now.nodes c.args.outputs.now c.requires.outputs)) c.loop-line.invariant.1
+    (omega (arith, c.loop-line-test.false, many_outputs (comparison v) v.graph c.args.diagram.now.nodes c.args.outputs.now c.requires.outputs))
+    c.loop-line.invariant.1

@@ -1,7 +1,7 @@
 use Rattle.std.proofs.Common.{◌++◌, ℕ, List, ap, arith, subst, sym, ◌∙◌}
 use Rattle.circuit_verify.specs.Comparisons.{input_bits}
 use Rattle.circuit_verify.specs.Compared.{comparison}
-use Rattle.circuit_verify.specs.inside.Numbers.{IsAdded}
+use Rattle.circuit_verify.specs.Comparisons.{IsAdded}
 use Rattle.circuit_verify.proofs.NumberLemmas.{numbers-grown}
 use Rattle.circuit_verify.proofs.StepLemmas.{input_numbers, many_bits, ports_added}
 use Rattle.circuit_verify.proofs.outputs.number_wanted.Goals as goal
