@@ -13,10 +13,9 @@ use Rattle.mct_circuit.proofs.ReversalLemmas.{length-line_map}
 use Rattle.circuit_plans.specs.declared.roles.Placing.{Placing}
 use Rattle.circuit_plans.specs.declared.roles.Placing.TheVariants.{InPlace}
 use Rattle.circuit_verify.specs.Compared.{ComparedView, IsReady, comparison}
-use Rattle.circuit_verify.specs.Comparisons.{AreBitsFor, Comparison, borrowed_bits, input_bits, inputs_in, lines_for, output_bits}
+use Rattle.circuit_verify.specs.Comparisons.{AreBitsFor, Comparison, IsAdded, borrowed_bits, input_bits, inputs_in, lines_for, output_bits}
 use Rattle.circuit_verify.specs.Comparisons.{output_lines, put_by, start_on, wanted_on, wanted_ports, work_lines}
 use Rattle.circuit_verify.specs.Verdicts.{FillsInputs, IsRight, IsVerified}
-use Rattle.circuit_verify.specs.inside.Numbers.{IsAdded}
 use Rattle.circuit_verify.proofs.HeldLemmas.{lines_added, put_added}
 use Rattle.circuit_verify.proofs.StepLemmas.{length-held, length-output_bits, length-ports, length-wanted, length-wanted_bits, wanted_bit, wanted_bits}
 use Rattle.circuit_verify.proofs.VerdictLemmas.{agrees_where, length-start_on}
@@ -181,9 +180,9 @@ some_valuation q t bits variables has are =
 pub right_line : (v : ComparedView) (t : ProductsView) (lines : List FormView) (line : ℕ) (f : FormView) → HasVariables (comparison v) t → HasValuations t
     → AreFormsOf (comparison v) t v.circuit.lines lines (λ bits. line_map v.circuit.gates (start_on (comparison v) bits)) → line < v.circuit.lines
     → AreEqualSums t (form_at lines line) f → IsFormOf (comparison v) t f (λ bits. bit_of (wanted_on (comparison v) bits) line) → IsRight (comparison v) line
-right_line v t lines line f variables has are low same wanted bits size =
+right_line v t lines line f variables has are low same wanted bits looks =
     let q = comparison v in
-    let some = some_valuation q t bits variables has size in
+    let some = some_valuation q t bits variables has looks.0 in
     sym ((form_in q t v.circuit.lines line lines (λ z. line_map v.circuit.gates (start_on q z)) are low).same bits some.0 some.1)
     ∙ same some.0 some.1.respects
     ∙ wanted.same bits some.0 some.1
@@ -192,12 +191,13 @@ right_line v t lines line f variables has are low same wanted bits size =
 pub verified : (v : ComparedView) → IsReady v → ((line : ℕ) → line < v.circuit.lines → IsRight (comparison v) line) → IsVerified (comparison v)
 verified v ready right = record {
   comparable = ready.comparable;
-  agrees = agrees_where (comparison v) (λ input. length-map v.graph.outputs (settled_value v.graph input)) ready.comparable.outputs (λ bits size.
+  agrees = agrees_where (comparison v) (λ input. length-map v.graph.outputs (settled_value v.graph input)) ready.comparable.outputs (λ bits looks.
       let q = comparison v in
+      let size : AreBitsFor q bits = looks.0 in
       let start : List Bool = start_on q bits in
       let long : length start ≡ v.circuit.lines = length-start_on q bits ready.comparable.lines size in
       let ended : length (line_map v.circuit.gates start) ≡ v.circuit.lines =
       length-line_map v.circuit.gates start (subst (λ (n : ℕ). AreGatesOn n v.circuit.gates) (sym long) ready.gates) ∙ long in
       ext_get_or false (line_map v.circuit.gates start) (wanted_on q bits) (ended ∙ sym (length-wanted v ready bits size))
-      (λ line low. right line (omega (arith, low, ended)) bits size));
+      (λ line low. right line (omega (arith, low, ended)) bits looks));
 }

@@ -4,10 +4,9 @@ ghost use Rattle.list_facts.specs.Bits.{bit_of};
 ghost use Rattle.claim_check.specs.Settled.{settled_outputs};
 ghost use Rattle.mct_circuit.specs.Gates.{line_map};
 ghost use Rattle.circuit_verify.specs.Compared.{comparison};
-ghost use Rattle.circuit_verify.specs.Comparisons.{input_bits, start_on, wanted_on};
+ghost use Rattle.circuit_verify.specs.Comparisons.{IsAdded, input_bits, start_on, wanted_on};
 ghost use Rattle.circuit_plans.specs.declared.roles.Placing.TheVariants.{InPlace};
 ghost use Rattle.circuit_verify.specs.Verdicts.{IsVerified};
-ghost use Rattle.circuit_verify.specs.inside.Numbers.{IsAdded};
 ghost use Rattle.sum_verify.specs.inside.Forms.{AreFormsOf, HasVariables, IsFormOf};
 
 use crate::fault::FormsFault;

@@ -41,14 +41,14 @@ impl<'s> Unsettled<'s> {
     }
 }
 
-/// Verifies that a circuit computes the outputs of a settled graph: on every input, whatever the
-/// output lines hold that they may, with 0 on the work lines and whatever the borrowed lines hold,
-/// the outputs are added to the output lines, or take the place of the inputs, and every other line
-/// is left as it was.
+/// Verifies that a circuit computes the outputs of a settled graph: on every input that is looked
+/// at, whatever the output lines hold that they may, with 0 on the work lines and whatever the
+/// borrowed lines hold, the outputs are added to the output lines, or take the place of the inputs,
+/// and every other line is left as it was.
 ///
 /// The lines are held as exclusive sums of inputs and of products, which `product_sums` numbers and
-/// bounds. A product of sums of products is not multiplied out, so a circuit that agrees may be
-/// left unsettled.
+/// bounds. A product of sums of products is not multiplied out, and sums are of all inputs, whether
+/// looked at or not, so a circuit that agrees may be left unsettled.
 ///
 /// # Errors
 ///

@@ -11,14 +11,15 @@ use Rattle.sum_verify.proofs.rewritten.forms_of_nodes.Goals as goal
 use Rattle.sum_verify.proofs.rewritten.forms_of_nodes.Goals.{After-node}
 
 reached : (c : After-node)
-    → IsReached c.args.compared.now c.loop-k.products c.args.lines.now c.loop-k.nodes.items c.args.graph.now.inputs c.loop-k.k (take c.loop-k.k c.args.graph.now.nodes)
+    → IsReached c.args.compared.now c.loop-k.products c.args.lines.now c.loop-k.nodes.items c.args.graph.now.inputs c.loop-k.k
+    (take c.loop-k.k c.args.graph.now.nodes)
 reached c =
     let v = c.args.compared.now in
     record {
       ready = c.variables.ensures.ready;
       inputs = c.requires.graph.inputs;
-      lines_are = forms_later (comparison v) c.args.products.now c.loop-k.products v.circuit.lines c.args.lines.now (start_on (comparison v)) c.loop-k.invariant.0
-          c.requires.lines;
+      lines_are = forms_later (comparison v) c.args.products.now c.loop-k.products v.circuit.lines c.args.lines.now
+          (start_on (comparison v)) c.loop-k.invariant.0 c.requires.lines;
       nodes_are = c.loop-k.invariant.1;
     }
 
@@ -30,7 +31,8 @@ sum_form-requires-clause-known c =
     let here = (goal.at.sum_form-requires-clause-known c).After-node in
     let g = c.args.graph.now in
     rw c.deref.ensures.value
-    (sum_placed c.args.compared.now _ _ _ _ _ _ c.node.result.now (reached here) (node_known g c.loop-k.k c.node.result.now c.requires.graph.keeps c.node.ensures))
+    (sum_placed c.args.compared.now _ _ _ _ _ _ c.node.result.now (reached here)
+    (node_known g c.loop-k.k c.node.result.now c.requires.graph.keeps c.node.ensures))
 
 pub sum_form-requires-clause-lines : goal.sum_form-requires-clause-lines
 sum_form-requires-clause-lines c =

@@ -42,7 +42,8 @@ pub sum_form-requires-clause-known : goal.sum_form-requires-clause-known
 sum_form-requires-clause-known c =
     let here = (goal.at.sum_form-requires-clause-known c).After-sum-item in
     let g = c.args.graph.now in
-    sum_placed c.args.compared.now _ _ _ _ _ _ c.sum-item.result (reached here) (output_known g c.loop-sum.sum-index c.sum-item.result c.requires.graph.keeps (at here))
+    sum_placed c.args.compared.now _ _ _ _ _ _ c.sum-item.result (reached here)
+    (output_known g c.loop-sum.sum-index c.sum-item.result c.requires.graph.keeps (at here))
 
 pub sum_form-requires-clause-lines : goal.sum_form-requires-clause-lines
 sum_form-requires-clause-lines c =
