@@ -8,7 +8,8 @@ use Rattle.revs_terms.specs.Causes.{cause_word}
 use Rattle.command_answers.specs.Lines.{digits_of}
 use Rattle.command_answers.specs.declared.fault.Fault.{Fault}
 use Rattle.command_answers.specs.declared.fault.Fault.TheVariants.{Usage, Refused, Claim, Diagram, CircuitDiagram, Lines, Gates, Circuit}
-use Rattle.command_answers.specs.declared.fault.Fault.TheVariants.{BadBits, FewOutputs, FewLines, WideGate, Differs, Unsettled, NoPart, Read, Write, Memory}
+use Rattle.command_answers.specs.declared.fault.Fault.TheVariants.{BadBits, FewOutputs, FewLines, WideGate, Differs, Unsettled, NoPart, NoCircuit, NoInput}
+use Rattle.command_answers.specs.declared.fault.Fault.TheVariants.{Read, Write, Memory}
 use Rattle.command_answers.specs.declared.fault.CircuitRefusal.{CircuitRefusal}
 use Rattle.command_answers.specs.declared.fault.CircuitRefusal.TheVariants as circuits
 use Rattle.command_answers.specs.declared.fault.FaultKind.{FaultKind}
@@ -36,6 +37,8 @@ status_of (Differs line bits) = 15
 status_of NoPart = 16
 status_of Unsettled = 17
 status_of (FewOutputs inputs outputs) = 18
+status_of NoCircuit = 19
+status_of NoInput = 20
 
 abbrev pub kind_text : FaultKind → List ℕ
 kind_text BadByte = codes "BadByte"
@@ -140,6 +143,8 @@ line_of (WideGate number) = wide_gate_line number
 line_of (Differs line bits) = differs_line line bits
 line_of Unsettled = codes "revc: circuit is not settled by sums\n"
 line_of NoPart = codes "revc: no parting line\n"
+line_of NoCircuit = codes "revc: no circuit in place was found\n"
+line_of NoInput = codes "revc: no input meets the assumptions\n"
 line_of Read = codes "revc: read fault\n"
 line_of Write = codes "revc: write fault\n"
 line_of (Memory _) = codes "revc: out of memory\n"

@@ -2,7 +2,7 @@
 use Rattle.std.specs.Prelude.{◌≡◌, ◌⊎◌, ℕ, ◌<◌, List, Option, IfSome, Contains, length}
 use Rattle.command_answers.specs.Faults.{status_of}
 use Rattle.command_answers.specs.declared.fault.Fault.{Fault}
-use Rattle.command_answers.specs.declared.fault.Fault.TheVariants.{Usage, Lines, Gates, Read, Write, Memory}
+use Rattle.command_answers.specs.declared.fault.Fault.TheVariants.{Usage, Lines, Gates, NoCircuit, Read, Write, Memory}
 use Rattle.command_answers.specs.declared.limit.TextLimit.{TextLimit}
 use Rattle.revc_words.specs.Words.{OrderView}
 
@@ -29,10 +29,12 @@ IsAnyFault fault = Unit {0}
 abbrev pub IsNoFault : Fault → Type 0
 IsNoFault fault = ⊥
 
--- budgets of plans are not exact: one may be kept where it could be passed
+-- budgets of plans are not exact: one may be kept where it could be passed, and a circuit in place
+-- be found where none need be
 abbrev pub IsNoBudget : Fault → Type 0
 IsNoBudget (Lines need limit) = ⊥
 IsNoBudget (Gates limit) = ⊥
+IsNoBudget NoCircuit = ⊥
 IsNoBudget fault = Unit {0}
 
 -- the promise of a command that reads such a text, whose causes have these statuses and are all

@@ -1,3 +1,4 @@
+// The faults of commands, with their statuses.
 ghost use Rattle.std.specs.Prelude.{◌≡◌};
 ghost use Rattle.command_answers.specs.declared.fault.Fault.TheVariants as faults;
 ghost use Rattle.command_answers.specs.Faults.{kind_text, status_of};
@@ -54,6 +55,12 @@ pub enum Fault {
     /// The source has no parting line.
     #[error("no parting line")]
     NoPart,
+    /// No circuit was found that puts the outputs on the lines of the inputs.
+    #[error("no circuit in place")]
+    NoCircuit,
+    /// On no input all claims hold that are taken for granted.
+    #[error("no input meets the assumptions")]
+    NoInput,
     #[error("read fault")]
     Read,
     #[error("write fault")]
@@ -126,6 +133,8 @@ impl Fault {
             Fault::NoPart => 16,
             Fault::Unsettled => 17,
             Fault::FewOutputs { .. } => 18,
+            Fault::NoCircuit => 19,
+            Fault::NoInput => 20,
         }
     }
 }

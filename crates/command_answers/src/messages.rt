@@ -43,23 +43,14 @@ impl Piece for Line<'_> {
                 let number = Decimal(*number as u64);
                 (b"revc: claim ", number, (b" at ", At(*at), bits)).put(buffer, out)
             }
-            Fault::Diagram { number, at, limit } => (
-                b"revc: claim ",
-                Decimal(*number as u64),
-                (
-                    b" at ",
-                    At(*at),
-                    (b" passes ", Decimal(*limit as u64), b" nodes\n"),
-                ),
-            )
-                .put(buffer, out),
+            Fault::Diagram { number, at, limit } => {
+                let passes = (b" passes ", Decimal(*limit as u64), b" nodes\n");
+                let number = Decimal(*number as u64);
+                (b"revc: claim ", number, (b" at ", At(*at), passes)).put(buffer, out)
+            }
             Fault::CircuitDiagram { limit } => {
-                (
-                    b"revc: circuit passes ",
-                    Decimal(*limit as u64),
-                    b" nodes\n",
-                )
-                    .put(buffer, out)
+                let limit = Decimal(*limit as u64);
+                (b"revc: circuit passes ", limit, b" nodes\n").put(buffer, out)
             }
             Fault::Lines { need, limit } => {
                 two_numbers(b"revc: lines ", *need, b" over ", *limit).put(buffer, out)
@@ -71,16 +62,15 @@ impl Piece for Line<'_> {
             Fault::BadBits { word } => {
                 (b"revc: bad bits in word ", Decimal(*word as u64), b"\n").put(buffer, out)
             }
-            Fault::FewOutputs { inputs, outputs } => (
-                b"revc: ",
-                Decimal(*inputs as u64),
-                (
+            Fault::FewOutputs { inputs, outputs } => {
+                let inputs = Decimal(*inputs as u64);
+                let outputs = (
                     b" inputs have only ",
                     Decimal(*outputs as u64),
                     b" outputs\n",
-                ),
-            )
-                .put(buffer, out),
+                );
+                (b"revc: ", inputs, outputs).put(buffer, out)
+            }
             Fault::FewLines { lines, need } => {
                 two_numbers(b"revc: circuit has ", *lines, b" lines, needs ", *need).put(
                     buffer, out,
@@ -91,15 +81,13 @@ impl Piece for Line<'_> {
             }
             Fault::Differs { line, bits } => {
                 let bits = (b" on ", BitLine(bits.bits()));
-                (
-                    b"revc: circuit differs at line ",
-                    Decimal(*line as u64),
-                    bits,
-                )
-                    .put(buffer, out)
+                let line = Decimal(*line as u64);
+                (b"revc: circuit differs at line ", line, bits).put(buffer, out)
             }
             Fault::Unsettled => b"revc: circuit is not settled by sums\n".put(buffer, out),
             Fault::NoPart => b"revc: no parting line\n".put(buffer, out),
+            Fault::NoCircuit => b"revc: no circuit in place was found\n".put(buffer, out),
+            Fault::NoInput => b"revc: no input meets the assumptions\n".put(buffer, out),
             Fault::Read => b"revc: read fault\n".put(buffer, out),
             Fault::Write => b"revc: write fault\n".put(buffer, out),
             Fault::Memory(_) => b"revc: out of memory\n".put(buffer, out),

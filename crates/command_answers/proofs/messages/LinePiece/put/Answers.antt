@@ -26,3 +26,9 @@ returns-in-NoPart-clause-bytes g c = rw c.in-NoPart.is c.put-in-NoPart.ensures.b
 
 pub returns-in-Unsettled-clause-bytes : goal.returns-in-Unsettled-clause-bytes
 returns-in-Unsettled-clause-bytes g c = rw c.in-Unsettled.is c.put-in-Unsettled.ensures.bytes
+
+pub returns-in-NoCircuit-clause-bytes : goal.returns-in-NoCircuit-clause-bytes
+returns-in-NoCircuit-clause-bytes g c = rw c.in-NoCircuit.is c.put-in-NoCircuit.ensures.bytes
+
+pub returns-in-NoInput-clause-bytes : goal.returns-in-NoInput-clause-bytes
+returns-in-NoInput-clause-bytes g c = rw c.in-NoInput.is c.put-in-NoInput.ensures.bytes
