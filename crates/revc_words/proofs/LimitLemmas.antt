@@ -5,7 +5,7 @@ use Rattle.arith_templates.specs.declared.kind.Kind.{Kind}
 use Rattle.arith_templates.specs.declared.kind.Kind.TheVariants.{Add, Mul}
 use Rattle.arith_templates.specs.declared.limits.TheConstants.{MOST_BITS, MOST_FACTOR}
 use Rattle.circuit_plans.specs.declared.plan.TheConstants.{MOST_LINES, MOST_GATES, MOST_BORROWED}
-use Rattle.revc_words.specs.declared.limits.TheConstants.{MOST_NODES, USUAL_LINES, USUAL_GATES, USUAL_NODES}
+use Rattle.revc_words.specs.declared.limits.TheConstants.{MOST_ASSUMED, MOST_NODES, USUAL_LINES, USUAL_GATES, USUAL_NODES}
 use Rattle.revc_words.specs.declared.commands.Positional.{Positional}
 use Rattle.revc_words.specs.declared.commands.Positional.TheVariants.{Nothing, Word, Words, Number, KindAndNumber}
 use Rattle.revc_words.specs.declared.commands.Command.{Command}
@@ -74,6 +74,7 @@ orders_are_within_limits words order is = record {
   borrow = (within 0 MOST_BORROWED 0 order.borrow (value_of (codes "borrow") is.given) (omega arith) (omega arith) is.borrow).1;
   nodes = (within 1 MOST_NODES USUAL_NODES order.nodes (value_of (codes "nodes") is.given) (omega arith) (omega arith) is.nodes).0;
   few_nodes = (within 1 MOST_NODES USUAL_NODES order.nodes (value_of (codes "nodes") is.given) (omega arith) (omega arith) is.nodes).1;
+  few_assumed = (within 0 MOST_ASSUMED 0 order.assume (value_of (codes "assume") is.given) (omega arith) (omega arith) is.assume).1;
   few_bits = few_bits (takes_of order.command) is.given is.plain (taken_of order) is.takes;
   some_bits = some_bits (takes_of order.command) is.given is.plain (taken_of order) is.takes;
   some_factor = λ multiplies. asked_factor order.command is.given is.plain (taken_of order) order.by is.takes is.by multiplies;

@@ -27,6 +27,7 @@ use Rattle.revc_words.specs.declared.commands.Positional.{Positional}
 use Rattle.revc_words.specs.declared.commands.Positional.TheVariants.{Nothing, Word, Words, Number, KindAndNumber}
 use Rattle.revc_words.specs.Commands.{factor_option, name_of, options_of, takes_of, way_option}
 use Rattle.revc_words.specs.declared.order.Aim.{Aim}
+use Rattle.revc_words.specs.declared.order.Format.{Format}
 use Rattle.revc_words.specs.declared.order.Format.TheVariants.{Real, Qasm}
 use Rattle.revc_words.specs.declared.order.Values.{Values}
 use Rattle.revc_words.specs.declared.order.Way.{Way}
@@ -34,10 +35,10 @@ use Rattle.revc_words.specs.declared.order.Write.{Write}
 use Rattle.revc_words.specs.Words.{order_of, order_with, OrderView, IsOrder, HasNoOrder, HasFactor, IsBy, IsWay, IsNumberIn, OneOrder, Taken, TakesWords}
 use Rattle.revc_words.specs.Words.{TakesKind, TakesNumber, Setting, Reads, nothing_left, all_behind, kind_word, taken_of}
 use Rattle.revc_words.specs.Words.{joined, parted, positional, IsOneOf, first_word, is_option, value_of, IsGivenOnce}
-use Rattle.revc_words.specs.inside.Parsing.{Texts, aim_of, write_of, app_for, bits_for, command_named, kind_for, kind_of, number_for, number_of, number_word, order_by, order_for}
+use Rattle.revc_words.specs.inside.Parsing.{Texts, aim_of, format_of, write_of, app_for, bits_for, command_named, kind_for, kind_of, number_for, number_of, number_word, order_by, order_for}
 use Rattle.revc_words.specs.inside.Parsing.{order_of_texts, parsed, takes_any, takes_count, takes_factor, texts_by, texts_in, value_or, values_of}
 use Rattle.revc_words.specs.inside.Parsing.{takes_kind, with_factor}
-use Rattle.revc_words.proofs.ValueLemmas.{Rule, plan_rule, lines_rule, gates_rule, borrow_rule, nodes_rule, placing_rule, way_rule, format_rule, by_rule}
+use Rattle.revc_words.proofs.ValueLemmas.{Rule, plan_rule, lines_rule, gates_rule, borrow_rule, nodes_rule, assume_rule, placing_rule, way_rule, format_rule, by_rule}
 use Rattle.revc_words.proofs.ValueLemmas.{aim_rule, write_rule, number_says, number_found, kind_named, kind_says, right, kept, text_is_no_option}
 use Rattle.revc_words.proofs.WalkLemmas.{by_test, is_one_of, filled_app, run, clap_says, AreTexts}
 use Rattle.revc_words.proofs.SaidLemmas.{Said, said, read, reached, parsed as ends, Fits, AreNew, AreOnce, AreValues, IsNever}
@@ -295,6 +296,7 @@ same_texts command rows given h = λ i. record {
   gates = h (codes "gates") refl i;
   borrow = h (codes "borrow") refl i;
   nodes = h (codes "nodes") refl i;
+  assume = h (codes "assume") refl i;
   outputs = h (codes "outputs") refl i;
   way = h (way_option command) (way_is_no_word command) i;
   format = h (codes "format") refl i;
@@ -334,13 +336,14 @@ abbrev Gives : {A : Type 0} → Rule A → Option (List ℕ) → A → Type 0
 Gives rule text value = value_or rule.usual rule.value text ≡ Some value
 
 -- the texts give these values
-record GiveAll (texts : Texts) (v : Values) : Type 0 where
+record GiveAll (command : Command) (texts : Texts) (v : Values) : Type 0 where
   plan : Gives plan_rule texts.plan v.plan
   lines : Gives lines_rule texts.lines v.lines
   gates : Gives gates_rule texts.gates v.gates
   borrow : Gives borrow_rule texts.borrow v.borrow
   nodes : Gives nodes_rule texts.nodes v.nodes
-  outputs : Gives placing_rule texts.outputs v.outputs
+  assume : Gives assume_rule texts.assume v.assume
+  outputs : Gives (placing_rule command) texts.outputs v.outputs
   way : Gives way_rule texts.way v.way
   format : Gives (format_rule Real) texts.format v.format
   from : Gives (format_rule Real) texts.from v.from
@@ -350,60 +353,71 @@ record GiveAll (texts : Texts) (v : Values) : Type 0 where
   write : Gives write_rule texts.write v.write
 
 -- the last texts give these values
-record GiveLast (texts : Texts) (made : Aim → ℕ → Write → Values) (v : Values) : Type 0 where
+record GiveLast (texts : Texts) (made : Format → Format → Aim → ℕ → Write → Values) (v : Values) : Type 0 where
+  from : Format
+  to : Format
   aim : Aim
   by : ℕ
   write : Write
+  from_is : Gives (format_rule Real) texts.from from
+  to_is : Gives (format_rule Qasm) texts.to to
   aim_is : Gives aim_rule texts.aim aim
   by_is : Gives by_rule texts.by by
   write_is : Gives write_rule texts.write write
-  same : made aim by write ≡ v
+  same : made from to aim by write ≡ v
 
-last_say : (texts : Texts) (made : Aim → ℕ → Write → Values) (v : Values)
-    → option_and_then (λ aim. option_and_then (λ by. option_and_then (λ write. Some (made aim by write)) (value_or write_rule.usual write_of texts.write))
-    (value_or by_rule.usual by_rule.value texts.by)) (value_or aim_rule.usual aim_of texts.aim) ≡ Some v
+last_say : (texts : Texts) (made : Format → Format → Aim → ℕ → Write → Values) (v : Values)
+    → option_and_then (λ from. option_and_then (λ to. option_and_then (λ aim. option_and_then (λ by. option_and_then (λ write. Some (made from to aim by write))
+    (value_or write_rule.usual write_of texts.write)) (value_or by_rule.usual by_rule.value texts.by)) (value_or aim_rule.usual aim_of texts.aim))
+    (value_or Qasm format_of texts.to)) (value_or Real format_of texts.from) ≡ Some v
     → GiveLast texts made v
 last_say texts made v e =
-    let aim = and_says _ _ v e in
+    let from = and_says _ _ v e in
+    let to = and_says _ _ v from.2 in
+    let aim = and_says _ _ v to.2 in
     let by = and_says _ _ v aim.2 in
     let write = and_says _ _ v by.2 in
     record {
+      from = from.0;
+      to = to.0;
       aim = aim.0;
       by = by.0;
       write = write.0;
+      from_is = from.1;
+      to_is = to.1;
       aim_is = aim.1;
       by_is = by.1;
       write_is = write.1;
       same = same_Some _ _ write.2;
     }
 
-values_say : (texts : Texts) (v : Values) → values_of texts ≡ Some v → GiveAll texts v
-values_say texts v e =
+values_say : (command : Command) (texts : Texts) (v : Values) → values_of command texts ≡ Some v → GiveAll command texts v
+values_say command texts v e =
     let plan = and_says _ _ v e in
     let lines = and_says _ _ v plan.2 in
     let gates = and_says _ _ v lines.2 in
     let borrow = and_says _ _ v gates.2 in
     let nodes = and_says _ _ v borrow.2 in
-    let outputs = and_says _ _ v nodes.2 in
+    let assume = and_says _ _ v nodes.2 in
+    let outputs = and_says _ _ v assume.2 in
     let way = and_says _ _ v outputs.2 in
     let format = and_says _ _ v way.2 in
-    let from = and_says _ _ v format.2 in
-    let to = and_says _ _ v from.2 in
-    let last = last_say texts (λ aim by write. record {
+    let last = last_say texts (λ from to aim by write. record {
       plan = plan.0;
       lines = lines.0;
       gates = gates.0;
       borrow = borrow.0;
       nodes = nodes.0;
+      assume = assume.0;
       outputs = outputs.0;
       way = way.0;
       format = format.0;
-      from = from.0;
-      to = to.0;
+      from = from;
+      to = to;
       aim = aim;
       by = by;
       write = write;
-    }) v to.2 in
+    }) v format.2 in
     let same = last.same in
     record {
       plan = plan.1 ∙ ap (λ (all : Values). Some all.plan) same;
@@ -411,11 +425,12 @@ values_say texts v e =
       gates = gates.1 ∙ ap (λ (all : Values). Some all.gates) same;
       borrow = borrow.1 ∙ ap (λ (all : Values). Some all.borrow) same;
       nodes = nodes.1 ∙ ap (λ (all : Values). Some all.nodes) same;
+      assume = assume.1 ∙ ap (λ (all : Values). Some all.assume) same;
       outputs = outputs.1 ∙ ap (λ (all : Values). Some all.outputs) same;
       way = way.1 ∙ ap (λ (all : Values). Some all.way) same;
       format = format.1 ∙ ap (λ (all : Values). Some all.format) same;
-      from = from.1 ∙ ap (λ (all : Values). Some all.from) same;
-      to = to.1 ∙ ap (λ (all : Values). Some all.to) same;
+      from = last.from_is ∙ ap (λ (all : Values). Some all.from) same;
+      to = last.to_is ∙ ap (λ (all : Values). Some all.to) same;
       aim = last.aim_is ∙ ap (λ (all : Values). Some all.aim) same;
       by = last.by_is ∙ ap (λ (all : Values). Some all.by) same;
       write = last.write_is ∙ ap (λ (all : Values). Some all.write) same;
@@ -454,9 +469,9 @@ gives_once (one ∷ given) once (suc i) (suc j) d lt within = gives_once given o
 order_is : (words behind : List (List ℕ)) (command : Command) (what : Said) (order : OrderView) → words ≡ name_of command ∷ behind
     → read (options_of command) behind None ≡ Some what → AreOnce what.given → order_said command what ≡ Some order → IsOrder words order
 order_is words behind command what order named found once e =
-    let valued = and_says (order_by command what.plain) (values_of (texts_of command what.given)) order e in
+    let valued = and_says (order_by command what.plain) (values_of command (texts_of command what.given)) order e in
     let values = valued.0 in
-    let all = values_say (texts_of command what.given) values valued.1 in
+    let all = values_say command (texts_of command what.given) values valued.1 in
     let takes = takes_of command in
     let by = right by_rule (value_of (factor_option command) what.given) values.by all.by in
     by_test (takes_count takes (length what.plain))
@@ -479,7 +494,8 @@ order_is words behind command what order named found once e =
       gates = right gates_rule (value_of (codes "gates") what.given) values.gates all.gates;
       borrow = right borrow_rule (value_of (codes "borrow") what.given) values.borrow all.borrow;
       nodes = right nodes_rule (value_of (codes "nodes") what.given) values.nodes all.nodes;
-      outputs = right placing_rule (value_of (codes "outputs") what.given) values.outputs all.outputs;
+      assume = right assume_rule (value_of (codes "assume") what.given) values.assume all.assume;
+      outputs = right (placing_rule command) (value_of (codes "outputs") what.given) values.outputs all.outputs;
       way = right way_rule (value_of (way_option command) what.given) values.way all.way;
       format = right (format_rule Real) (value_of (codes "format") what.given) values.format all.format;
       from = right (format_rule Real) (value_of (codes "from") what.given) values.from all.from;
@@ -506,6 +522,7 @@ said_so words order is =
       gates = order.gates;
       borrow = order.borrow;
       nodes = order.nodes;
+      assume = order.assume;
       outputs = order.outputs;
       way = order.way;
       format = order.format;
@@ -515,13 +532,14 @@ said_so words order is =
       by = order.by;
       write = order.write;
     } in
-    let valued : values_of (texts_of order.command is.given) ≡ Some values = rw (
+    let valued : values_of order.command (texts_of order.command is.given) ≡ Some values = rw (
       kept plan_rule (value_of (codes "plan") is.given) order.plan is.plan,
       kept lines_rule (value_of (codes "lines") is.given) order.lines is.lines,
       kept gates_rule (value_of (codes "gates") is.given) order.gates is.gates,
       kept borrow_rule (value_of (codes "borrow") is.given) order.borrow is.borrow,
       kept nodes_rule (value_of (codes "nodes") is.given) order.nodes is.nodes,
-      kept placing_rule (value_of (codes "outputs") is.given) order.outputs is.outputs,
+      kept assume_rule (value_of (codes "assume") is.given) order.assume is.assume,
+      kept (placing_rule order.command) (value_of (codes "outputs") is.given) order.outputs is.outputs,
       kept way_rule (value_of (way_option order.command) is.given) order.way is.way,
       kept (format_rule Real) (value_of (codes "format") is.given) order.format is.format,
       kept (format_rule Real) (value_of (codes "from") is.given) order.from is.from,
@@ -590,7 +608,7 @@ among P (option ∷ options) name all (inr rest) = among P options name all.1 re
 abbrev all_options : List (List ℕ)
 all_options =
     codes "plan" ∷ codes "lines" ∷ codes "gates" ∷ codes "borrow" ∷ codes "nodes" ∷ codes "outputs" ∷ codes "format" ∷ codes "from"
-    ∷ codes "to" ∷ codes "for" ∷ codes "by" ∷ codes "write" ∷ []
+    ∷ codes "to" ∷ codes "for" ∷ codes "by" ∷ codes "write" ∷ codes "assume" ∷ []
 
 known_options : (command : Command) → list_all (is_one_of all_options) (options_of command) ≡ true
 known_options Compile = refl
@@ -609,7 +627,7 @@ safe_by command given by way is gives = record { each = λ word e. text_is_no_op
 safe : (words : List (List ℕ)) (order : OrderView) → (is : IsOrder words order) → AllByRecursion (IsSafe is.given) (options_of order.command)
 safe words order is =
     each_of (IsSafe is.given) all_options (options_of order.command)
-    (plan, (lines, (gates, (borrow, (nodes, (outputs, (format, (from, (to, (aim, (by, (write, tt)))))))))))) (known_options order.command)
+    (plan, (lines, (gates, (borrow, (nodes, (outputs, (format, (from, (to, (aim, (by, (write, (assume, tt))))))))))))) (known_options order.command)
   where
     plan : IsSafe is.given (codes "plan")
     plan = record { each = λ word e. text_is_no_option plan_rule (value_of (codes "plan") is.given) order.plan word is.plan e }
@@ -627,7 +645,7 @@ safe words order is =
     nodes = record { each = λ word e. text_is_no_option nodes_rule (value_of (codes "nodes") is.given) order.nodes word is.nodes e }
 
     outputs : IsSafe is.given (codes "outputs")
-    outputs = record { each = λ word e. text_is_no_option placing_rule (value_of (codes "outputs") is.given) order.outputs word is.outputs e }
+    outputs = record { each = λ word e. text_is_no_option (placing_rule order.command) (value_of (codes "outputs") is.given) order.outputs word is.outputs e }
 
     format : IsSafe is.given (codes "format")
     format = record { each = λ word e. text_is_no_option (format_rule Real) (value_of (codes "format") is.given) order.format word is.format e }
@@ -643,6 +661,9 @@ safe words order is =
 
     by : IsSafe is.given (codes "by")
     by = safe_by order.command is.given order.by order.way is.by is.way
+
+    assume : IsSafe is.given (codes "assume")
+    assume = record { each = λ word e. text_is_no_option assume_rule (value_of (codes "assume") is.given) order.assume word is.assume e }
 
     write : IsSafe is.given (codes "write")
     write = record { each = λ word e. text_is_no_option write_rule (value_of (codes "write") is.given) order.write word is.write e }

@@ -74,6 +74,6 @@ words_found f result found e is =
     ap (λ o. unwrap_or o []) (sym (e ∙ raw_values-rows f (codes "word"))) ∙ ap (λ o. unwrap_or (option_map texts o) []) is
 
 pub order_found : (command : Command) (rows : List Row) (plain : List (List ℕ)) (values : Values) (given : Option Values)
-    → given ≡ values_of (texts_in command rows) → given ≡ Some values → words_in rows ≡ plain → order_for command rows ≡ order_by command plain values
+    → given ≡ values_of command (texts_in command rows) → given ≡ Some values → words_in rows ≡ plain → order_for command rows ≡ order_by command plain values
 order_found command rows plain values given gives is are =
     ap (option_and_then (order_by command (words_in rows))) (sym gives ∙ is) ∙ ap (λ p. order_by command p values) are

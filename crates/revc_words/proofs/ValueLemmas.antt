@@ -14,20 +14,23 @@ use Rattle.arith_templates.specs.declared.limits.TheConstants.{MOST_FACTOR}
 use Rattle.circuit_plans.specs.declared.plan.TheConstants.{MOST_LINES, MOST_GATES, MOST_BORROWED}
 use Rattle.circuit_plans.specs.declared.choice.Plan.{Plan}
 use Rattle.circuit_plans.specs.declared.choice.Plan.TheVariants.{Auto, Compact, Eager, Lean, Pebble, Shallow}
-use Rattle.revc_words.specs.declared.limits.TheConstants.{MOST_DIGITS, MOST_NODES, USUAL_LINES, USUAL_GATES, USUAL_NODES}
+use Rattle.revc_words.specs.declared.limits.TheConstants.{MOST_ASSUMED, MOST_DIGITS, MOST_NODES, USUAL_LINES, USUAL_GATES, USUAL_NODES}
+use Rattle.revc_words.specs.declared.commands.Command.{Command}
+use Rattle.revc_words.specs.declared.commands.Command.TheVariants.{Compile}
 use Rattle.revc_words.specs.declared.order.Aim.{Aim}
 use Rattle.revc_words.specs.declared.order.Aim.TheVariants as aims
 use Rattle.revc_words.specs.declared.order.Format.{Format}
 use Rattle.revc_words.specs.declared.order.Format.TheVariants.{Real, Qasm}
 use Rattle.circuit_plans.specs.declared.roles.Placing.{Placing}
 use Rattle.circuit_plans.specs.declared.roles.Placing.TheVariants.{Added, InPlace}
+use Rattle.circuit_plans.specs.declared.roles.Start.{Start}
 use Rattle.circuit_plans.specs.declared.roles.Start.TheVariants.{Any, Zero}
 use Rattle.revc_words.specs.declared.order.Way.{Way}
 use Rattle.revc_words.specs.declared.order.Way.TheVariants.{Both, Diagrams, Sums}
 use Rattle.revc_words.specs.declared.order.Write.{Write}
 use Rattle.revc_words.specs.declared.order.Write.TheVariants as writes
-use Rattle.revc_words.specs.Words.{IsNumberIn, plan_word, placing_word, way_word, format_word, kind_word, aim_word, write_word, is_option}
-use Rattle.revc_words.specs.inside.Parsing.{first_with, is_number_in, number_of, plan_of, placing_of, way_of, format_of, kind_of, aim_of, write_of, value_or}
+use Rattle.revc_words.specs.Words.{IsNumberIn, MayPlace, plan_word, placing_word, way_word, format_word, kind_word, aim_word, write_word, is_option}
+use Rattle.revc_words.specs.inside.Parsing.{first_with, is_number_in, number_of, plan_of, placing_of, placing_for, way_of, format_of, kind_of, aim_of, write_of, value_or}
 
 digits : IsNumeralModel (λ ds. all_ascii_digits ds ≡ true) (digits_value 10)
 digits = numerals_by_value _ tells_all_ascii_digits
@@ -209,14 +212,34 @@ placing_is_no_option (Added Any) = refl
 placing_is_no_option (Added Zero) = refl
 placing_is_no_option InPlace = refl
 
-abbrev pub placing_rule : Rule Placing
-placing_rule = record {
-  value = placing_of;
-  Writes = λ word placing. word ≡ placing_word placing;
+abbrev pub WritesPlacing : Command → List ℕ → Placing → Type 0
+WritesPlacing command word placing = (word ≡ placing_word placing) × MayPlace command placing
+
+in_place_may : (start : Start) (word : List ℕ) → first_with placing_word (InPlace ∷ []) word ≡ Some (Added start) → ⊥
+in_place_may start word e = at (bytes_eq word (placing_word InPlace)) e
+  where
+    at : (test : Bool) → cond test (Some InPlace) None ≡ Some (Added start) → ⊥
+    at true e = absurd cc
+    at false e = absurd cc
+
+pub placing_says : (command : Command) (word : List ℕ) (placing : Placing) → placing_for command word ≡ Some placing → WritesPlacing command word placing
+placing_says Compile word (Added start) e = absurd (in_place_may start word e)
+placing_says Compile word InPlace e = (first_says placing_word (InPlace ∷ []) word InPlace e, tt)
+placing_says command word placing e = (first_says placing_word (Added Any ∷ InPlace ∷ Added Zero ∷ []) word placing e, tt)
+
+pub placing_found : (command : Command) (word : List ℕ) (placing : Placing) → WritesPlacing command word placing → placing_for command word ≡ Some placing
+placing_found Compile word (Added start) is = absurd is.1
+placing_found Compile word InPlace is = ap (placing_for Compile) is.0
+placing_found command word placing is = ap placing_of is.0 ∙ placing_named placing
+
+abbrev pub placing_rule : Command → Rule Placing
+placing_rule command = record {
+  value = placing_for command;
+  Writes = WritesPlacing command;
   usual = Added Zero;
-  says = first_says placing_word (Added Any ∷ InPlace ∷ Added Zero ∷ []);
-  found = λ word placing is. ap placing_of is ∙ placing_named placing;
-  no_option = λ word placing is. ap is_option is ∙ placing_is_no_option placing;
+  says = placing_says command;
+  found = placing_found command;
+  no_option = λ word placing is. ap is_option is.0 ∙ placing_is_no_option placing;
 }
 
 pub way_is_no_option : (way : Way) → is_option (way_word way) ≡ false
@@ -295,6 +318,9 @@ borrow_rule = number_rule 0 MOST_BORROWED 0
 
 abbrev pub nodes_rule : Rule ℕ
 nodes_rule = number_rule 1 MOST_NODES USUAL_NODES
+
+abbrev pub assume_rule : Rule ℕ
+assume_rule = number_rule 0 MOST_ASSUMED 0
 
 abbrev pub by_rule : Rule ℕ
 by_rule = number_rule 1 MOST_FACTOR 0

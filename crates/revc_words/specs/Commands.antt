@@ -17,10 +17,14 @@ spelling_of Compile = record {
   name = codes "compile";
   options =
       codes "plan" ∷ codes "lines" ∷ codes "gates" ∷ codes "borrow" ∷ codes "nodes"
-      ∷ codes "format" ∷ [];
+      ∷ codes "format" ∷ codes "outputs" ∷ codes "assume" ∷ [];
   takes = Nothing;
 }
-spelling_of Check = record { name = codes "check"; options = codes "nodes" ∷ []; takes = Nothing }
+spelling_of Check = record {
+  name = codes "check";
+  options = codes "nodes" ∷ codes "assume" ∷ [];
+  takes = Nothing;
+}
 spelling_of Eval = record { name = codes "eval"; options = []; takes = Word }
 spelling_of Stat = record { name = codes "stat"; options = codes "from" ∷ []; takes = Nothing }
 spelling_of Run = record { name = codes "run"; options = codes "from" ∷ []; takes = Words }
@@ -44,7 +48,8 @@ spelling_of Bench = record {
 spelling_of Verify = record {
   name = codes "verify";
   options =
-      codes "from" ∷ codes "nodes" ∷ codes "borrow" ∷ codes "outputs" ∷ codes "by" ∷ [];
+      codes "from" ∷ codes "nodes" ∷ codes "borrow" ∷ codes "outputs" ∷ codes "by"
+      ∷ codes "assume" ∷ [];
   takes = Nothing;
 }
 spelling_of Arith = record {

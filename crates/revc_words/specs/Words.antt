@@ -15,9 +15,10 @@ use Rattle.circuit_plans.specs.declared.choice.Plan.TheVariants.{Auto, Compact, 
 use Rattle.circuit_plans.specs.declared.roles.Placing.{Placing}
 use Rattle.circuit_plans.specs.declared.roles.Placing.TheVariants.{Added, InPlace}
 use Rattle.circuit_plans.specs.declared.roles.Start.TheVariants.{Any, Zero}
-use Rattle.revc_words.specs.declared.limits.TheConstants.{MOST_DIGITS, MOST_NODES, USUAL_LINES, USUAL_GATES, USUAL_NODES}
+use Rattle.revc_words.specs.declared.limits.TheConstants.{MOST_ASSUMED, MOST_DIGITS, MOST_NODES, USUAL_LINES, USUAL_GATES, USUAL_NODES}
 use Rattle.revc_words.specs.Commands.{factor_option, name_of, options_of, takes_of, way_option}
 use Rattle.revc_words.specs.declared.commands.Command.{Command}
+use Rattle.revc_words.specs.declared.commands.Command.TheVariants.{Compile}
 use Rattle.revc_words.specs.declared.commands.Positional.{Positional}
 use Rattle.revc_words.specs.declared.commands.Positional.TheVariants.{Nothing, Word, Words, Number, KindAndNumber}
 use Rattle.revc_words.specs.declared.order.Aim.{Aim}
@@ -38,11 +39,11 @@ words_of words = map string_bytes words
 -- ---- orders
 
 -- a command, the plans that it tries, the most lines and gates of its circuit, how many lines it
--- borrows, the most nodes of its diagrams, where it puts the outputs, the way by
--- which a circuit is verified, the format of the circuit of a program, the formats that `convert`
--- and `tidy` read and write, for what a circuit is tidied, what a program computes of numbers, the
--- factor by which it multiplies, what is written of it, how many bits its numbers have, and words
--- of bits
+-- borrows, the most nodes of its diagrams, how many claims it takes for granted, where it puts the
+-- outputs, the way by which a circuit is verified, the format of the circuit of a program, the
+-- formats that `convert` and `tidy` read and write, for what a circuit is tidied, what a program
+-- computes of numbers, the factor by which it multiplies, what is written of it, how many bits its
+-- numbers have, and words of bits
 pub record OrderView : Type 0 where
   pub command : Command
   pub plan : Plan
@@ -50,6 +51,7 @@ pub record OrderView : Type 0 where
   pub gates : ℕ
   pub borrow : ℕ
   pub nodes : ℕ
+  pub assume : ℕ
   pub outputs : Placing
   pub way : Way
   pub format : Format
@@ -71,6 +73,7 @@ order_with command values kind number bits = record {
   gates = values.gates;
   borrow = values.borrow;
   nodes = values.nodes;
+  assume = values.assume;
   outputs = values.outputs;
   way = values.way;
   format = values.format;
@@ -227,9 +230,21 @@ AreBorrowed given borrow = IsCounted (codes "borrow") 0 MOST_BORROWED 0 given bo
 abbrev pub AreNodes : List Setting → ℕ → Type 0
 AreNodes given nodes = IsCounted (codes "nodes") 1 MOST_NODES USUAL_NODES given nodes
 
+-- the claims taken for granted: as many as are given, or none
+abbrev pub AreAssumed : List Setting → ℕ → Type 0
+AreAssumed given assume = IsCounted (codes "assume") 0 MOST_ASSUMED 0 given assume
+
+-- what a command may be told of where the outputs are: `compile` that they are in place, since
+-- which of the others holds is its plan's
+abbrev pub MayPlace : Command → Placing → Type 0
+MayPlace Compile (Added start) = ⊥
+MayPlace command placing = Unit {0}
+
 -- where the outputs are: as is given, or added to output lines that hold zeros at the start
-abbrev pub IsPlacing : List Setting → Placing → Type 0
-IsPlacing given placing = IsChosen (codes "outputs") placing_word (Added Zero) given placing
+abbrev pub IsPlacing : Command → List Setting → Placing → Type 0
+IsPlacing command given placing =
+    MatchOption (value_of (codes "outputs") given) (placing ≡ Added Zero)
+    (λ word. (word ≡ placing_word placing) × MayPlace command placing)
 
 -- the format that is written: the one given, or `.real`
 abbrev pub IsFormat : List Setting → Format → Type 0
@@ -329,7 +344,8 @@ pub record IsOrder (words : List (List ℕ)) (order : OrderView) : Type 0 where
   pub gates : AreGates given order.gates
   pub borrow : AreBorrowed given order.borrow
   pub nodes : AreNodes given order.nodes
-  pub outputs : IsPlacing given order.outputs
+  pub assume : AreAssumed given order.assume
+  pub outputs : IsPlacing order.command given order.outputs
   pub way : IsWay order.command given order.way
   pub format : IsFormat given order.format
   pub from : IsFrom given order.from
@@ -358,6 +374,7 @@ pub record IsWithinLimits (order : OrderView) : Type 0 where
   pub borrow : order.borrow ≤ MOST_BORROWED
   pub nodes : 1 ≤ order.nodes
   pub few_nodes : order.nodes ≤ MOST_NODES
+  pub few_assumed : order.assume ≤ MOST_ASSUMED
   pub few_bits : order.number ≤ MOST_BITS
   pub some_bits : HasNumber (takes_of order.command) order.number
   pub some_factor : order.kind ≡ Mul → 1 ≤ order.by

@@ -83,10 +83,12 @@ impl Command {
         match self {
             Command::Compile => spelled(
                 "compile",
-                &["plan", "lines", "gates", "borrow", "nodes", "format"],
+                &[
+                    "plan", "lines", "gates", "borrow", "nodes", "format", "outputs", "assume",
+                ],
                 Positional::Nothing,
             ),
-            Command::Check => spelled("check", &["nodes"], Positional::Nothing),
+            Command::Check => spelled("check", &["nodes", "assume"], Positional::Nothing),
             Command::Eval => spelled("eval", &[], Positional::Word),
             Command::Stat => spelled("stat", &["from"], Positional::Nothing),
             Command::Run => spelled("run", &["from"], Positional::Words),
@@ -100,7 +102,7 @@ impl Command {
             ),
             Command::Verify => spelled(
                 "verify",
-                &["from", "nodes", "borrow", "outputs", "by"],
+                &["from", "nodes", "borrow", "outputs", "by", "assume"],
                 Positional::Nothing,
             ),
             Command::Arith => spelled("arith", &["by", "write"], Positional::KindAndNumber),

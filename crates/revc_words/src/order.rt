@@ -61,7 +61,10 @@ pub struct Values {
     pub borrow: u32,
     /// The most inner nodes of the diagrams, 1 to 1,000,000.
     pub nodes: u32,
-    /// Where a circuit puts the outputs.
+    /// How many claims, from the first on, are taken for granted, 0 to 4,096.
+    pub assume: u32,
+    /// Where a circuit puts the outputs. `compile` is told of `InPlace` alone: which of the others
+    /// holds is its plan's.
     pub outputs: Placing,
     /// How a circuit is verified.
     pub way: Way,
@@ -87,6 +90,7 @@ impl Values {
         gates: USUAL_GATES,
         borrow: 0,
         nodes: USUAL_NODES,
+        assume: 0,
         outputs: Placing::Added(Start::Zero),
         way: Way::Diagrams,
         format: Format::Real,

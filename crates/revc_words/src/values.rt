@@ -2,18 +2,19 @@
 ghost use Rattle.std.specs.Prelude.{◌≡◌, ℕ, List, Option};
 ghost use Rattle.clap.specs.Words.{first_of, found_of, rows_of};
 ghost use Rattle.revc_words.specs.Commands.{factor_option, way_option};
-ghost use Rattle.revc_words.specs.inside.Parsing.{kind_of, number_of, text_at};
-ghost use Rattle.revc_words.specs.inside.Parsing.{texts_in, value_or, values_of, plan_of};
+ghost use Rattle.revc_words.specs.inside.Parsing.{in_place_of, kind_of, number_of, placing_for};
+ghost use Rattle.revc_words.specs.inside.Parsing.{plan_of, text_at, texts_in, value_or, values_of};
 ghost use Rattle.revc_words.specs.inside.Parsing.{aim_of, format_of, placing_of, way_of, write_of};
 
-use crate::{Aim, Command, Format, MOST_DIGITS, MOST_NODES, Values, Way, Write};
+use crate::{Aim, Command, Format, MOST_ASSUMED, MOST_DIGITS, MOST_NODES, Values, Way, Write};
 use arith_templates::{Kind, MOST_FACTOR};
 use circuit_plans::{MOST_BORROWED, MOST_GATES, MOST_LINES, Placing, Plan, Start};
 use clap::ArgMatches;
 
 /// The values of the texts that are given to a command: what has no text has its usual value.
 pub fn values_given(command: Command, matches: &ArgMatches) -> Option<Values>
-    ensures { result ≡ values_of (texts_in command (rows_of (found_of matches.now))) }
+    ensures { result
+        ≡ values_of command (texts_in command (rows_of (found_of matches.now))) }
 {
     let usual = Values::USUAL;
     let most_gates = MOST_GATES as u32;
@@ -24,7 +25,8 @@ pub fn values_given(command: Command, matches: &ArgMatches) -> Option<Values>
         gates: u64::from(gates?),
         borrow: number_or(text(matches, "borrow"), 0, MOST_BORROWED, usual.borrow)?,
         nodes: number_or(text(matches, "nodes"), 1, MOST_NODES, usual.nodes)?,
-        outputs: chosen(text(matches, "outputs"), usual.outputs)?,
+        assume: number_or(text(matches, "assume"), 0, MOST_ASSUMED, usual.assume)?,
+        outputs: placing_or(command, text(matches, "outputs"), usual.outputs)?,
         way: chosen(way_text(command, matches), usual.way)?,
         format: chosen(text(matches, "format"), usual.format)?,
         from: chosen(text(matches, "from"), usual.from)?,
@@ -64,6 +66,37 @@ fn number_or(text: Option<&str>, least: u32, most: u32, usual: u32) -> Option<u3
     match text {
         Some(text) => number(text, least, most),
         None => Some(usual),
+    }
+}
+
+// Where a text that is given to a command says that the outputs are, or the usual one where there is
+// no text.
+fn placing_or(command: Command, text: Option<&str>, usual: Placing) -> Option<Placing>
+    ensures { result ≡ value_or usual (placing_for command) (text_at text.entry) }
+{
+    match text {
+        Some(text) => placing(command, text),
+        None => Some(usual),
+    }
+}
+
+// Where this text says to a command that the outputs are.
+fn placing(command: Command, text: &str) -> Option<Placing>
+    ensures { result ≡ placing_for command text.now }
+{
+    match command {
+        Command::Compile => in_place(text),
+        _ => Placing::named(text),
+    }
+}
+
+// The outputs in place, if the text says that.
+fn in_place(text: &str) -> Option<Placing>
+    ensures { result ≡ in_place_of text.now }
+{
+    match text {
+        "inputs" => Some(Placing::InPlace),
+        _ => None,
     }
 }
 

@@ -16,9 +16,10 @@ use Rattle.circuit_plans.specs.declared.choice.Plan.TheVariants.{Auto, Compact, 
 use Rattle.circuit_plans.specs.declared.roles.Placing.{Placing}
 use Rattle.circuit_plans.specs.declared.roles.Placing.TheVariants.{Added, InPlace}
 use Rattle.circuit_plans.specs.declared.roles.Start.TheVariants.{Any, Zero}
-use Rattle.revc_words.specs.declared.limits.TheConstants.{MOST_DIGITS, MOST_NODES, USUAL_LINES, USUAL_GATES, USUAL_NODES}
+use Rattle.revc_words.specs.declared.limits.TheConstants.{MOST_ASSUMED, MOST_DIGITS, MOST_NODES, USUAL_LINES, USUAL_GATES, USUAL_NODES}
 use Rattle.revc_words.specs.Commands.{factor_option, name_of, options_of, takes_of, way_option}
 use Rattle.revc_words.specs.declared.commands.Command.{Command}
+use Rattle.revc_words.specs.declared.commands.Command.TheVariants.{Compile}
 use Rattle.revc_words.specs.declared.commands.TheConstants.Command.{ALL}
 use Rattle.revc_words.specs.declared.commands.Positional.{Positional}
 use Rattle.revc_words.specs.declared.commands.Positional.TheVariants.{Nothing, Word, Words, Number, KindAndNumber}
@@ -132,6 +133,15 @@ plan_of word =
 abbrev pub placing_of : List ℕ → Option Placing
 placing_of word = first_with placing_word (Added Any ∷ InPlace ∷ Added Zero ∷ []) word
 
+-- the outputs in place, where that is the word
+abbrev pub in_place_of : List ℕ → Option Placing
+in_place_of word = first_with placing_word (InPlace ∷ []) word
+
+-- where a command is told that the outputs are
+abbrev pub placing_for : Command → List ℕ → Option Placing
+placing_for Compile word = in_place_of word
+placing_for command word = placing_of word
+
 abbrev pub way_of : List ℕ → Option Way
 way_of word = first_with way_word (Diagrams ∷ Sums ∷ Both ∷ []) word
 
@@ -163,6 +173,7 @@ pub record Texts : Type 0 where
   pub gates : Option (List ℕ)
   pub borrow : Option (List ℕ)
   pub nodes : Option (List ℕ)
+  pub assume : Option (List ℕ)
   pub outputs : Option (List ℕ)
   pub way : Option (List ℕ)
   pub format : Option (List ℕ)
@@ -180,6 +191,7 @@ texts_by command text_of = record {
   gates = text_of (codes "gates");
   borrow = text_of (codes "borrow");
   nodes = text_of (codes "nodes");
+  assume = text_of (codes "assume");
   outputs = text_of (codes "outputs");
   way = text_of (way_option command);
   format = text_of (codes "format");
@@ -193,13 +205,14 @@ texts_by command text_of = record {
 abbrev pub texts_in : Command → List Row → Texts
 texts_in command rows = texts_by command (λ name. first_of name rows)
 
-abbrev pub values_of : Texts → Option Values
-values_of texts =
+abbrev pub values_of : Command → Texts → Option Values
+values_of command texts =
     option_and_then (λ plan.
     option_and_then (λ lines.
     option_and_then (λ gates.
     option_and_then (λ borrow.
     option_and_then (λ nodes.
+    option_and_then (λ assume.
     option_and_then (λ outputs.
     option_and_then (λ way.
     option_and_then (λ format.
@@ -213,6 +226,7 @@ values_of texts =
       gates = gates;
       borrow = borrow;
       nodes = nodes;
+      assume = assume;
       outputs = outputs;
       way = way;
       format = format;
@@ -229,7 +243,8 @@ values_of texts =
     (value_or Real format_of texts.from))
     (value_or Real format_of texts.format))
     (value_or Diagrams way_of texts.way))
-    (value_or (Added Zero) placing_of texts.outputs))
+    (value_or (Added Zero) (placing_for command) texts.outputs))
+    (value_or 0 (number_of 0 MOST_ASSUMED) texts.assume))
     (value_or USUAL_NODES (number_of 1 MOST_NODES) texts.nodes))
     (value_or 0 (number_of 0 MOST_BORROWED) texts.borrow))
     (value_or USUAL_GATES (number_of 1 MOST_GATES) texts.gates))
@@ -284,7 +299,7 @@ order_by command plain values =
 -- with these texts and positional words
 abbrev pub order_of_texts : Command → Texts → List (List ℕ) → Option OrderView
 order_of_texts command texts plain =
-    option_and_then (order_by command plain) (values_of texts)
+    option_and_then (order_by command plain) (values_of command texts)
 
 -- with these rows
 abbrev pub order_for : Command → List Row → Option OrderView
