@@ -4,3 +4,4 @@ pub mod TextLemmas
 pub mod FormedLemmas
 pub mod SettlingLemmas
 pub mod CheckLemmas
+pub mod CleanLemmas

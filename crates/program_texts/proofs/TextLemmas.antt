@@ -68,11 +68,11 @@ leaves_tape p bound tape b of =
 
 -- ---- the fault of a text is one of each command
 
-pub stops_settling : (text : List ℕ) (nodes : ℕ) (fault : Fault) → IsTextFault text fault → IsSettlingFault text nodes fault
-stops_settling text nodes (faults.Refused (refusals.At kind at)) h = h
-stops_settling text nodes (faults.Refused refusals.TooLong) h = absurd h
-stops_settling text nodes (faults.Memory _) h = tt
-stops_settling text nodes fault h = absurd h
+pub stops_settling : (text : List ℕ) (assumed nodes : ℕ) (fault : Fault) → IsTextFault text fault → IsSettlingFault text assumed nodes fault
+stops_settling text assumed nodes (faults.Refused (refusals.At kind at)) h = h
+stops_settling text assumed nodes (faults.Refused refusals.TooLong) h = absurd h
+stops_settling text assumed nodes (faults.Memory _) h = tt
+stops_settling text assumed nodes fault h = absurd h
 
 pub stops_eval : (text word : List ℕ) (fault : Fault) → IsTextFault text fault → IsEvalFault text word fault
 stops_eval text word (faults.Refused (refusals.At kind at)) h = h

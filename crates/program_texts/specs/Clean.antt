@@ -1,6 +1,7 @@
 -- What a clean circuit of a program is: what it computes, and what its lines hold before and
 -- behind.
 use Rattle.std.specs.Prelude.{◌≡◌, ℕ, ◌+◌, Bool, List, length, sum}
+use Rattle.claim_assumptions.specs.Assumptions.{AreMetOn}
 use Rattle.circuit_plans.specs.Plans.{AddsOutput, MayHold, ReplacesInput, lines_in}
 use Rattle.circuit_plans.specs.declared.roles.Placing.{Placing}
 use Rattle.circuit_plans.specs.declared.roles.Placing.TheVariants.{Added, InPlace}
@@ -8,7 +9,8 @@ use Rattle.circuit_plans.specs.declared.roles.Roles.{Roles}
 use Rattle.circuit_plans.specs.declared.roles.Start.{Start}
 use Rattle.mct_circuit.specs.Gates.{GateView, AreGatesOn, AreNarrow}
 use Rattle.revs_terms.specs.Programs.{widths_of}
-use Rattle.revs_terms.specs.Runs.{IsInput, HasOutput}
+use Rattle.revs_tape.specs.Tapes.{TapeView}
+use Rattle.revs_terms.specs.Runs.{IsInput, IsTapeOf, HasOutput}
 use Rattle.revs_terms.specs.Views.{ProgramView}
 
 -- on this input, whatever the borrowed lines hold, the gates add the program's output to whatever
@@ -36,14 +38,18 @@ abbrev pub ComputesOn : ProgramView → Placing → Roles → List GateView → 
 ComputesOn p (Added start) roles gates input borrowed = AddsOn p start roles gates input borrowed
 ComputesOn p InPlace roles gates input borrowed = ReplacesOn p roles gates input borrowed
 
+-- this input meets the first so many claims of the program's run
+abbrev pub MeetsFirst : ProgramView → ℕ → List Bool → Type 0
+MeetsFirst p assumed input = (t : TapeView) → IsTapeOf p.params p.body t → AreMetOn t assumed input
+
 -- A clean circuit for a program, with so many borrowed lines: its gates are on lines of these
 -- roles, each a flip with at most two controls, all positive, on different lines; and they compute
--- the program on every input, and put its outputs there.
-pub record IsCleanCircuit (p : ProgramView) (placing : Placing) (borrowed : ℕ) (roles : Roles)
-    (gates : List GateView) : Type 0 where
+-- the program on every input that meets its first so many claims, and put its outputs there.
+pub record IsCleanCircuit (p : ProgramView) (assumed : ℕ) (placing : Placing) (borrowed : ℕ)
+    (roles : Roles) (gates : List GateView) : Type 0 where
   pub inputs : roles.inputs ≡ sum (widths_of p.params)
   pub borrows : roles.borrowed ≡ borrowed
   pub placed : AreGatesOn (lines_in roles) gates
   pub narrow : AreNarrow gates
-  pub computes : (input bits : List Bool) → IsInput p.params input → length bits ≡ borrowed
-      → ComputesOn p placing roles gates input bits
+  pub computes : (input bits : List Bool) → IsInput p.params input → MeetsFirst p assumed input
+      → length bits ≡ borrowed → ComputesOn p placing roles gates input bits

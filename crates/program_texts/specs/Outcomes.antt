@@ -14,9 +14,9 @@ IsTextFault text (Memory _) = Unit {0}
 IsTextFault text _ = ⊥
 
 -- why the claims of a text are not settled, or there was no memory left
-abbrev pub IsSettlingFault : List ℕ → ℕ → Fault → Type 0
-IsSettlingFault text nodes (Memory _) = Unit {0}
-IsSettlingFault text nodes fault = StopsSettling text nodes fault
+abbrev pub IsSettlingFault : List ℕ → ℕ → ℕ → Fault → Type 0
+IsSettlingFault text assumed nodes (Memory _) = Unit {0}
+IsSettlingFault text assumed nodes fault = StopsSettling text assumed nodes fault
 
 -- why a text and a word give no value, or there was no memory left
 abbrev pub IsEvalFault : List ℕ → List ℕ → Fault → Type 0

@@ -1,40 +1,53 @@
 // From a tape to its settled graph.
 ghost use Rattle.std.specs.Prelude.{◌≡◌, ◌+◌, ◌<◌, ◌≤◌, length, slice_get, IfOk, IfErr};
 ghost use Rattle.std.specs.Prelude.{IfSome};
-ghost use Rattle.claim_check.specs.Claims.{IsClaimFault};
+ghost use Rattle.claim_assumptions.specs.Settling.{IsAssumptionFault};
+ghost use Rattle.claim_check.specs.Measures.{IsNoLarger};
+ghost use Rattle.claim_check.specs.Settled.{IsSettledOf};
 ghost use Rattle.program_texts.specs.Outcomes.{IsSettlingFault};
 ghost use Rattle.program_texts.specs.Settling.{ForTexts, IsSettledWithin};
+ghost use Rattle.revs_terms.specs.declared.limits.TheConstants.{MOST_RUN_WRITES};
 
-use claim_check::{ClaimFault, Settled, settle};
+use claim_assumptions::{AssumptionFault, settle_assuming};
+use claim_check::Settled;
 use command_answers::Fault;
 use dependency_graph::Graph;
-use revc_base::{Bits, Place};
+use revc_base::{Bits, Memory, Place};
 use revs_tape::Tape;
 
-/// The settled graph of a tape, whose claims hold on all inputs. A fault is exactly a claim that
-/// stops each text that leaves the tape, or want of memory.
-pub fn settle_tape(tape: &Tape, nodes: u32) -> Result<Settled, Fault>
-    requires { 1 ≤ nodes }
-    ensures ok { IfOk result (IsSettledWithin tape.now nodes) }
+/// The settled graph of a tape, whose claims hold on the inputs that meet the first so many. A
+/// fault is exactly what stops each text that leaves the tape, or want of memory.
+pub fn settle_tape(tape: &Tape, assumed: u32, nodes: u32) -> Result<Settled, Fault>
+    requires some { 1 ≤ nodes }
+    requires few { length tape.now.entries ≤ MOST_RUN_WRITES }
+    ensures ok { IfOk result (IsSettledWithin tape.now assumed nodes) }
     ensures err { IfErr result
-        (λ fault. ForTexts tape.now (λ text. IsSettlingFault text nodes fault)) }
+        (λ fault. ForTexts tape.now (λ text. IsSettlingFault text assumed nodes fault)) }
 {
-    let graph = Graph::of(tape)?;
-    match settle(graph, tape, nodes) {
-        Ok(settled) => Ok(settled),
-        Err(fault) => Err(claim_fault(tape, fault, nodes)),
+    match settle_assuming(tape, assumed, nodes) {
+        Ok(()) => Ok(settled_graph(tape)?),
+        Err(fault) => Err(settling_fault(tape, fault, assumed, nodes)),
     }
 }
 
+// The settled graph of a tape.
+fn settled_graph(tape: &Tape) -> Result<Settled, Memory>
+    ensures of_tape { IfOk result (IsSettledOf tape.now) }
+    ensures no_larger { IfOk result (IsNoLarger tape.now) }
+{
+    let graph = Graph::of(tape)?;
+    Settled::of(&graph, tape)
+}
+
 // The fault of the program for a fault of its claims.
-fn claim_fault(tape: &Tape, fault: ClaimFault, nodes: u32) -> Fault
-    requires { IsClaimFault tape.now nodes fault }
-    ensures stops { ForTexts tape.now (λ text. IsSettlingFault text nodes result) }
-    ensures memory { result ≡ Fault.Memory _ → fault ≡ ClaimFault.Memory _ }
+fn settling_fault(tape: &Tape, fault: AssumptionFault, assumed: u32, nodes: u32) -> Fault
+    requires { IsAssumptionFault tape.now assumed nodes fault }
+    ensures { ForTexts tape.now (λ text. IsSettlingFault text assumed nodes result) }
 {
     match fault {
-        ClaimFault::Broken { claim, input } => broken_claim(tape, claim, input),
-        ClaimFault::Diagram { claim, .. } => {
+        AssumptionFault::NoInput => Fault::NoInput,
+        AssumptionFault::Broken { claim, input } => broken_claim(tape, claim, input),
+        AssumptionFault::Diagram { claim, .. } => {
             let (number, at) = counted(tape, claim);
             Fault::Diagram {
                 number,
@@ -42,7 +55,7 @@ fn claim_fault(tape: &Tape, fault: ClaimFault, nodes: u32) -> Fault
                 limit: nodes,
             }
         }
-        ClaimFault::Memory(memory) => Fault::Memory(memory),
+        AssumptionFault::Memory(memory) => Fault::Memory(memory),
     }
 }
 
