@@ -1,40 +1,34 @@
 -- What the comparison of a settled graph with a circuit says of the tape and of the two texts.
-use Rattle.std.proofs.Common.{◌≡◌, inr, ℕ, ◌<◌, ◌≤◌, ◌^◌, Bool, List, ◌∷◌, Result}
-use Rattle.std.proofs.Common.{Ok, Err, length, sum, refl, sym, ap, ◌∙◌, subst, arith, length-append}
+use Rattle.std.proofs.Common.{◌≡◌, inr, ℕ, ◌<◌, ◌≤◌, ◌^◌, List, ◌∷◌, Result}
+use Rattle.std.proofs.Common.{Ok, Err, length, refl, sym, ap, ◌∙◌, subst, arith, length-append}
 use Rattle.std.specs.Prelude.{OnOk}
 use Rattle.std.specs.Result.{IfErr}
-use Rattle.std.proofs.lemmas.List.{length-map}
 use Rattle.circuit_commands.specs.Circuits.{ReadCircuit, Means, line_count}
 use Rattle.circuit_commands.specs.Outcomes.{IsCircuitFault}
 use Rattle.circuit_commands.specs.declared.limits.TheConstants.{MOST_CIRCUIT_BYTES}
 use Rattle.circuit_verify.specs.Compared.{ComparedView, comparison}
-use Rattle.circuit_verify.specs.Comparisons.{Agrees, Comparison, beside, of_tape, roles_in}
+use Rattle.circuit_verify.specs.Comparisons.{Comparison, of_tape}
 use Rattle.circuit_verify.specs.Verdicts.{IsFirstWide, IsNotComparable, IsVerified, IsVerifyFault}
 use Rattle.circuit_verify.specs.declared.fault.NotComparable.{NotComparable}
 use Rattle.circuit_verify.specs.declared.fault.NotComparable.TheVariants as reasons
 use Rattle.circuit_verify.specs.declared.fault.VerifyFault.{VerifyFault}
 use Rattle.circuit_verify.specs.declared.fault.VerifyFault.TheVariants as verdicts
 use Rattle.circuit_verify.proofs.TapeLemmas.{said_of_tapes}
+use Rattle.claim_assumptions.specs.Assumptions.{premise}
 use Rattle.claim_check.specs.Settled.{SettledView, IsSettledOf}
 use Rattle.command_answers.specs.declared.fault.CircuitRefusal.TheVariants as circuits
 use Rattle.command_answers.specs.declared.fault.Fault.{Fault}
 use Rattle.command_answers.specs.declared.fault.Fault.TheVariants as faults
 use Rattle.command_answers.specs.declared.fault.Refusal.TheVariants as refusals
-use Rattle.circuit_plans.specs.Plans.{lines_in}
-use Rattle.circuit_plans.specs.declared.roles.Placing.{Placing}
-use Rattle.circuit_plans.specs.declared.roles.Placing.TheVariants.{Added, InPlace}
 use Rattle.mct_circuit.specs.Gates.{AreGatesOn, CircuitView}
-use Rattle.program_texts.specs.Clean.{ComputesOn, IsCleanCircuit}
+use Rattle.program_texts.proofs.CleanLemmas.{clean_circuit}
 use Rattle.program_texts.specs.Outcomes.{IsSettlingFault, IsTextFault}
 use Rattle.program_texts.specs.Settling.{ForTexts, IsSettledWithin, LeavesSettled, LeavesTape}
 use Rattle.revc_words.specs.Words.{OrderView}
 use Rattle.revc_words.specs.declared.order.Way.{Way}
 use Rattle.revc_words.specs.declared.order.Way.TheVariants as ways
 use Rattle.revs_parser.specs.declared.limits.TheConstants.{MOST_BYTES}
-use Rattle.revs_tape.specs.Tapes.{TapeView, bit_on, outputs_on}
-use Rattle.revs_terms.specs.Runs.{IsInput, IsTapeOf}
-use Rattle.revs_terms.specs.Views.{ProgramView}
-use Rattle.revs_terms.proofs.TapeLemmas.{tape_gives_output}
+use Rattle.revs_tape.specs.Tapes.{TapeView, IsTape}
 use Rattle.sum_verify.specs.declared.fault.SumsFault.TheVariants as sums
 use Rattle.verify_command.specs.Parting.{IsParted}
 use Rattle.verify_command.specs.Outcomes.{IsVerifyingFault}
@@ -99,112 +93,86 @@ countable way v limit why few is = absurd is
 -- ---- the comparison of a tape
 
 -- the two, as they are compared
-abbrev pub settled_beside : List ℕ → SettledView → CircuitView → OrderView → ComparedView
-settled_beside params s circuit order = record { graph = s; params = params; circuit = circuit; placing = order.outputs; borrow = order.borrow }
+abbrev pub settled_beside : List ℕ → (graph premise : SettledView) → CircuitView → OrderView → ComparedView
+settled_beside params s g circuit order =
+    record { graph = s; premise = g; params = params; circuit = circuit; placing = order.outputs; borrow = order.borrow }
 
-pub tape_verified : (t : TapeView) (s : SettledView) (params : List ℕ) (circuit : CircuitView) (order : OrderView) (v : ComparedView)
-    → v ≡ settled_beside params s circuit order → params ≡ t.params → IsSettledOf t s → IsVerified (comparison v)
+pub tape_verified : (t : TapeView) (s g : SettledView) (params : List ℕ) (circuit : CircuitView) (order : OrderView) (v : ComparedView)
+    → v ≡ settled_beside params s g circuit order → params ≡ t.params → IsSettledOf t s → IsSettledOf (premise order.assume t) g → IsVerified (comparison v)
     → IsVerified (comparison_with order t circuit)
-tape_verified t s params circuit order v made same is h =
-    (said_of_tapes t s is circuit order.outputs order.borrow order.nodes).verified
-    (subst (λ (ps : List ℕ). IsVerified (comparison (settled_beside ps s circuit order))) same
+tape_verified t s g params circuit order v made same is its h =
+    (said_of_tapes t (premise order.assume t) s g is its circuit order.outputs order.borrow order.nodes).verified
+    (subst (λ (ps : List ℕ). IsVerified (comparison (settled_beside ps s g circuit order))) same
     (subst (λ (w : ComparedView). IsVerified (comparison w)) made h))
 
 -- what stops the comparison with a settled graph stops that with its tape
-stops_tape : (t : TapeView) (s : SettledView) (circuit : CircuitView) (order : OrderView) (fault : Fault) → IsSettledOf t s
-    → IsComparingFault order fault (comparison (settled_beside t.params s circuit order)) → IsComparingFault order fault (comparison_with order t circuit)
-stops_tape t s circuit order (faults.FewOutputs inputs outputs) is h =
-    (said_of_tapes t s is circuit order.outputs order.borrow order.nodes).not_comparable (reasons.Outputs inputs outputs) h
-stops_tape t s circuit order (faults.FewLines lines need) is h =
-    let said = (said_of_tapes t s is circuit order.outputs order.borrow order.nodes).not_comparable (reasons.Lines need)
+stops_tape : (t : TapeView) (s g : SettledView) (circuit : CircuitView) (order : OrderView) (fault : Fault) → IsSettledOf t s
+    → IsSettledOf (premise order.assume t) g → IsComparingFault order fault (comparison (settled_beside t.params s g circuit order))
+    → IsComparingFault order fault (comparison_with order t circuit)
+stops_tape t s g circuit order (faults.FewOutputs inputs outputs) is its h =
+    (said_of_tapes t (premise order.assume t) s g is its circuit order.outputs order.borrow order.nodes).not_comparable (reasons.Outputs inputs outputs) h
+stops_tape t s g circuit order (faults.FewLines lines need) is its h =
+    let said = (said_of_tapes t (premise order.assume t) s g is its circuit order.outputs order.borrow order.nodes).not_comparable (reasons.Lines need)
     (h.0, subst (λ (n : ℕ). n < need) h.1 h.2, h.3) in
     (said.0, h.1, h.2, said.2)
-stops_tape t s circuit order (faults.WideGate number) is h =
-    let said = (said_of_tapes t s is circuit order.outputs order.borrow order.nodes).not_comparable (reasons.Gate h.before)
+stops_tape t s g circuit order (faults.WideGate number) is its h =
+    let said = (said_of_tapes t (premise order.assume t) s g is its circuit order.outputs order.borrow order.nodes).not_comparable (reasons.Gate h.before)
     (h.outputs, h.enough, h.first) in
     record { outputs = said.0; enough = said.1; before = h.before; first = said.2; count = h.count }
-stops_tape t s circuit order (faults.CircuitDiagram limit) is h =
-    let said = (said_of_tapes t s is circuit order.outputs order.borrow order.nodes).refused (verdicts.Diagram limit) (h.1, h.2, h.3) in
+stops_tape t s g circuit order (faults.CircuitDiagram limit) is its h =
+    let said = (said_of_tapes t (premise order.assume t) s g is its circuit order.outputs order.borrow order.nodes).refused (verdicts.Diagram limit)
+    (h.1, h.2, h.3) in
     (h.0, said.0, said.1, said.2)
-stops_tape t s circuit order (faults.Differs number bits) is h =
+stops_tape t s g circuit order (faults.Differs number bits) is its h =
     let d = h.1 in
-    let said = (said_of_tapes t s is circuit order.outputs order.borrow order.nodes).refused (verdicts.Differs d.before bits) (d.comparable, d.first) in
+    let said = (said_of_tapes t (premise order.assume t) s g is its circuit order.outputs order.borrow order.nodes).refused (verdicts.Differs d.before bits)
+    (d.comparable, d.first) in
     (h.0, record { comparable = said.0; before = d.before; first = said.1; count = d.count })
-stops_tape t s circuit order faults.Unsettled is h =
-    (h.0, (said_of_tapes t s is circuit order.outputs order.borrow order.nodes).comparable h.1)
-stops_tape t s circuit order (faults.Memory _) is h =
-    (said_of_tapes t s is circuit order.outputs order.borrow order.nodes).comparable h
-stops_tape t s circuit order fault is h = absurd h
+stops_tape t s g circuit order faults.Unsettled is its h =
+    (h.0, (said_of_tapes t (premise order.assume t) s g is its circuit order.outputs order.borrow order.nodes).comparable h.1)
+stops_tape t s g circuit order (faults.Memory _) is its h =
+    (said_of_tapes t (premise order.assume t) s g is its circuit order.outputs order.borrow order.nodes).comparable h
+stops_tape t s g circuit order fault is its h = absurd h
 
-pub tape_stopped : (t : TapeView) (s : SettledView) (params : List ℕ) (circuit : CircuitView) (order : OrderView) (v : ComparedView) (fault : Fault)
-    → v ≡ settled_beside params s circuit order → params ≡ t.params → IsSettledOf t s → IsComparingFault order fault (comparison v)
-    → IsComparingFault order fault (comparison_with order t circuit)
-tape_stopped t s params circuit order v fault made same is h =
-    stops_tape t s circuit order fault is
-    (subst (λ (ps : List ℕ). IsComparingFault order fault (comparison (settled_beside ps s circuit order))) same
+pub tape_stopped : (t : TapeView) (s g : SettledView) (params : List ℕ) (circuit : CircuitView) (order : OrderView) (v : ComparedView) (fault : Fault)
+    → v ≡ settled_beside params s g circuit order → params ≡ t.params → IsSettledOf t s → IsSettledOf (premise order.assume t) g
+    → IsComparingFault order fault (comparison v) → IsComparingFault order fault (comparison_with order t circuit)
+tape_stopped t s g params circuit order v fault made same is its h =
+    stops_tape t s g circuit order fault is its
+    (subst (λ (ps : List ℕ). IsComparingFault order fault (comparison (settled_beside ps s g circuit order))) same
     (subst (λ (w : ComparedView). IsComparingFault order fault (comparison w)) made h))
 
-pub named_in : (params : List ℕ) (s : SettledView) (circuit : CircuitView) (order : OrderView) (why : NotComparable)
-    → IsNotComparable (comparison (settled_beside params s circuit order)) why → IsNamedIn circuit why
-named_in params s circuit order why is = named (comparison (settled_beside params s circuit order)) why is
+pub named_in : (params : List ℕ) (s g : SettledView) (circuit : CircuitView) (order : OrderView) (why : NotComparable)
+    → IsNotComparable (comparison (settled_beside params s g circuit order)) why → IsNamedIn circuit why
+named_in params s g circuit order why is = named (comparison (settled_beside params s g circuit order)) why is
 
-pub tape_not_comparable : (t : TapeView) (s : SettledView) (params : List ℕ) (circuit : CircuitView) (order : OrderView) (why : NotComparable)
-    → params ≡ t.params → IsSettledOf t s → IsNotComparable (comparison (settled_beside params s circuit order)) why
+pub tape_not_comparable : (t : TapeView) (s g : SettledView) (params : List ℕ) (circuit : CircuitView) (order : OrderView) (why : NotComparable)
+    → params ≡ t.params → IsSettledOf t s → IsSettledOf (premise order.assume t) g → IsNotComparable (comparison (settled_beside params s g circuit order)) why
     → IsComparingFault order (not_comparable_fault circuit why) (comparison_with order t circuit)
-tape_not_comparable t s params circuit order why same is h =
+tape_not_comparable t s g params circuit order why same is its h =
     not_comparing order (comparison_with order t circuit) why
-    ((said_of_tapes t s is circuit order.outputs order.borrow order.nodes).not_comparable why
-    (subst (λ (ps : List ℕ). IsNotComparable (comparison (settled_beside ps s circuit order)) why) same h))
+    ((said_of_tapes t (premise order.assume t) s g is its circuit order.outputs order.borrow order.nodes).not_comparable why
+    (subst (λ (ps : List ℕ). IsNotComparable (comparison (settled_beside ps s g circuit order)) why) same h))
 
 -- ---- the comparison of two texts
 
-computes_on : (placing : Placing) (borrow : ℕ) (p : ProgramView) (tape : TapeView) (circuit : CircuitView) → IsTapeOf p.params p.body tape
-    → Agrees (beside (of_tape tape) circuit placing borrow) → (input bits : List Bool) → IsInput p.params input → length bits ≡ borrow
-    → ComputesOn p placing (roles_in (beside (of_tape tape) circuit placing borrow)) circuit.gates input bits
-computes_on (Added start) borrow p tape circuit of agrees input bits size many = record {
-  output = outputs_on tape input;
-  is = tape_gives_output p.params p.body tape of input size;
-  size = length-map tape.outputs (bit_on tape input);
-  adds = λ held wide may. agrees.adds input held bits (size ∙ ap sum (sym of.widths)) wide may many;
-}
-computes_on InPlace borrow p tape circuit of agrees input bits size many = record {
-  output = outputs_on tape input;
-  is = tape_gives_output p.params p.body tape of input size;
-  size = agrees.size input (size ∙ ap sum (sym of.widths));
-  replaces = agrees.replaces input bits (size ∙ ap sum (sym of.widths)) many;
-}
-
-clean_of : (order : OrderView) (program : List ℕ) (tape : TapeView) (read : ReadCircuit) (settled : LeavesSettled program order.nodes tape)
-    → AreGatesOn (line_count read) read.gates → IsVerified (comparison_of order tape read)
-    → IsCleanCircuit settled.left.program order.outputs order.borrow (roles_in (comparison_of order tape read)) read.gates
-clean_of order program tape read settled on v =
-    let p = settled.left.program in
-    let of = settled.left.tape_of in
-    let enough = v.comparable.lines in
-    let same : line_count read ≡ lines_in (roles_in (comparison_of order tape read)) = omega arith in
-    record {
-      inputs = ap sum of.widths;
-      borrows = refl;
-      placed = subst (λ n. AreGatesOn n read.gates) same on;
-      narrow = v.comparable.narrow;
-      computes = computes_on order.outputs order.borrow p tape
-          (record { lines = line_count read; limit = length read.gates; gates = read.gates }) of v.agrees;
-    }
-
 pub texts_verified : {T E : Type 0} (order : OrderView) (program text : List ℕ) (tape : TapeView) (graph : SettledView) (read : ReadCircuit)
-    (circuit : CircuitView) (r : Result T E) → LeavesTape program tape → Means order.from text read → IsSettledWithin tape order.nodes graph
+    (circuit : CircuitView) (r : Result T E) → IsTape tape → LeavesTape program tape → Means order.from text read
+    → IsSettledWithin tape order.assume order.nodes graph
     → circuit.lines ≡ line_count read → circuit.gates ≡ read.gates → AreGatesOn circuit.lines circuit.gates
     → OnOk r (IsVerified (comparison_with order tape circuit)) → OnOk r (AreVerified order program text)
-texts_verified {T} {E} order program text tape graph read circuit (Ok x) left means within lines gates on h =
-    let settled : LeavesSettled program order.nodes tape = record { left = left; hold = within.hold } in
+texts_verified {T} {E} order program text tape graph read circuit (Ok x) known left means within lines gates on h =
+    let settled : LeavesSettled program order.assume order.nodes tape = record { left = left; hold = within.hold } in
     let v : IsVerified (comparison_of order tape read) =
-    verified_circuit (of_tape tape) circuit (line_count read) (length read.gates) read.gates order.outputs order.borrow lines gates h in
+    verified_circuit (of_tape tape) (of_tape (premise order.assume tape)) circuit (line_count read) (length read.gates) read.gates order.outputs
+    order.borrow lines gates h in
     record {
       compared = record { tape = tape; settled = settled; read = read; means = means; holds = v };
-      clean = clean_of order program tape read settled
+      clean = clean_circuit left.program order.assume tape (record { lines = line_count read; limit = length read.gates; gates = read.gates })
+          order.outputs order.borrow known left.tape_of
           (subst (λ gs. AreGatesOn (line_count read) gs) gates (subst (λ n. AreGatesOn n circuit.gates) lines on)) v;
     }
-texts_verified {T} {E} order program text tape graph read circuit (Err e) left means within lines gates on h = tt
+texts_verified {T} {E} order program text tape graph read circuit (Err e) known left means within lines gates on h = tt
 
 -- ---- why they are not
 
@@ -227,21 +195,22 @@ circuit_stops order program text tape (faults.Memory _) few short left h = (few,
 circuit_stops order program text tape fault few short left h = absurd h
 
 settling_stops : (order : OrderView) (program text : List ℕ) (read : ReadCircuit) (fault : Fault) → length program ≤ MOST_BYTES → Means order.from text read
-    → IsSettlingFault program order.nodes fault → IsPartsFault order program text fault
+    → IsSettlingFault program order.assume order.nodes fault → IsPartsFault order program text fault
 settling_stops order program text read (faults.Refused refusals.TooLong) few means h = h
 settling_stops order program text read (faults.Refused (refusals.At kind at)) few means h = (means.short, h)
+settling_stops order program text read faults.NoInput few means h = (read, means, h)
 settling_stops order program text read (faults.Claim number at bits) few means h = (read, means, h)
 settling_stops order program text read (faults.Diagram number at limit) few means h = (read, means, h)
 settling_stops order program text read (faults.Memory _) few means h = (few, means.short)
 settling_stops order program text read fault few means h = absurd h
 
 pub claims_stop : (order : OrderView) (program text : List ℕ) (tape : TapeView) (read : ReadCircuit) (fault : Fault) → length program ≤ MOST_BYTES
-    → LeavesTape program tape → Means order.from text read → ForTexts tape (λ own. IsSettlingFault own order.nodes fault)
+    → LeavesTape program tape → Means order.from text read → ForTexts tape (λ own. IsSettlingFault own order.assume order.nodes fault)
     → IsPartsFault order program text fault
 claims_stop order program text tape read fault few left means h = settling_stops order program text read fault few means (h.of_text program left)
 
 comparison_stops : (order : OrderView) (program text : List ℕ) (tape : TapeView) (read : ReadCircuit) (fault : Fault) → length program ≤ MOST_BYTES
-    → LeavesSettled program order.nodes tape → Means order.from text read → IsComparingFault order fault (comparison_of order tape read)
+    → LeavesSettled program order.assume order.nodes tape → Means order.from text read → IsComparingFault order fault (comparison_of order tape read)
     → IsPartsFault order program text fault
 comparison_stops order program text tape read (faults.FewOutputs inputs outputs) few settled means h =
     record { tape = tape; settled = settled; read = read; means = means; holds = h }
@@ -260,13 +229,14 @@ comparison_stops order program text tape read fault few settled means h = absurd
 
 pub texts_stop : {T : Type 0} (order : OrderView) (program text : List ℕ) (tape : TapeView) (graph : SettledView) (read : ReadCircuit)
     (circuit : CircuitView) (r : Result T Fault) → length program ≤ MOST_BYTES → LeavesTape program tape → Means order.from text read
-    → IsSettledWithin tape order.nodes graph → circuit.lines ≡ line_count read → circuit.gates ≡ read.gates
+    → IsSettledWithin tape order.assume order.nodes graph → circuit.lines ≡ line_count read → circuit.gates ≡ read.gates
     → IfErr r (λ fault. IsComparingFault order fault (comparison_with order tape circuit))
     → IfErr r (IsPartsFault order program text)
 texts_stop {T} order program text tape graph read circuit (Ok x) few left means within lines gates h = tt
 texts_stop {T} order program text tape graph read circuit (Err fault) few left means within lines gates h =
     comparison_stops order program text tape read fault few (record { left = left; hold = within.hold }) means
-    (stops_circuit (of_tape tape) circuit (line_count read) (length read.gates) read.gates order.outputs order.borrow order fault lines gates h)
+    (stops_circuit (of_tape tape) (of_tape (premise order.assume tape)) circuit (line_count read) (length read.gates) read.gates order.outputs
+    order.borrow order fault lines gates h)
 
 -- ---- a source
 

@@ -144,7 +144,7 @@ record IsUnreadBy (order : OrderView) (circuit : List ℕ) (fault : Fault) : Typ
 
 abbrev LastStage : OrderView → List ℕ → List ℕ → Fault → Type 0
 LastStage order program circuit fault =
-    StopsSettling program order.nodes fault ⊎ Compares order (StopsComparing order fault) program circuit
+    StopsSettling program order.assume order.nodes fault ⊎ Compares order (StopsComparing order fault) program circuit
 
 abbrev ReadStage : OrderView → List ℕ → List ℕ → Fault → Type 0
 ReadStage order program circuit fault =
@@ -187,6 +187,7 @@ staged order program circuit (faults.Circuit (circuits.LineLimit number)) h =
     unread order program circuit (circuits.LineLimit number) h.0 h.1 h.2.short h.2
 staged order program circuit (faults.Circuit (circuits.Token at)) h = unread order program circuit (circuits.Token at) h.0 h.1 h.2.short h.2
 staged order program circuit (faults.Circuit (circuits.TokenLimit at)) h = unread order program circuit (circuits.TokenLimit at) h.0 h.1 h.2.short h.2
+staged order program circuit faults.NoInput h = last order program circuit faults.NoInput h.2.tape h.0 h.2.left h.1 (inl h.2)
 staged order program circuit (faults.Claim number at bits) h =
     last order program circuit (faults.Claim number at bits) h.2.tape h.0 h.2.left h.1 (inl h.2)
 staged order program circuit (faults.Diagram number at limit) h =
@@ -227,9 +228,9 @@ one_of_parts order program circuit fault exact is a b =
     (λ x y. circuits_meet x.1 y.1)
   where
     lasts_meet : LastStage order program circuit fault → LastStage order program circuit exact → OneOf exact fault
-    lasts_meet one other = meet one other (λ x y. inl (one_stop program order.nodes exact fault y x))
-        (λ x y. settled_or_stopped program order.nodes y.tape fault y.settled x)
-        (λ x y. settled_or_stopped program order.nodes x.tape exact x.settled y)
+    lasts_meet one other = meet one other (λ x y. inl (one_stop program order.assume order.nodes exact fault y x))
+        (λ x y. settled_or_stopped program order.assume order.nodes y.tape fault y.settled x)
+        (λ x y. settled_or_stopped program order.assume order.nodes x.tape exact x.settled y)
         (both_compared order program circuit fault exact is)
 
     reads_meet : ReadStage order program circuit fault → ReadStage order program circuit exact → OneOf exact fault
@@ -259,7 +260,7 @@ compared_or_stopped order OfTwo program circuit fault c apart h = elim (staged o
 ]
   where
     at_last : LastStage order program circuit fault → ⊥
-    at_last (inl stops) = settled_or_stopped program order.nodes c.tape fault c.settled stops
+    at_last (inl stops) = settled_or_stopped program order.assume order.nodes c.tape fault c.settled stops
     at_last (inr other) =
         let same = same_two order program circuit OfTwo (StopsComparing order fault) c other in
         apart (comparison_of order other.tape other.read) (subst OfTwo same c.holds) other.holds
@@ -338,7 +339,7 @@ as_compared order source p =
     record { short = p.short; program = p.program; circuit = p.circuit; parted = p.parted; holds = p.holds.compared }
 
 among : (order : OrderView) (source : List ℕ) (fault : Fault) → IsCause order source fault
-    → IsFaultOfText (3 ∷ 4 ∷ 5 ∷ 8 ∷ 13 ∷ 14 ∷ 15 ∷ 16 ∷ 17 ∷ 18 ∷ []) fault
+    → IsFaultOfText (3 ∷ 4 ∷ 5 ∷ 8 ∷ 13 ∷ 14 ∷ 15 ∷ 16 ∷ 17 ∷ 18 ∷ 20 ∷ []) fault
 among order source (faults.Refused refusal) cause = record { of_text = tt; status = (0, omega arith, refl) }
 among order source (faults.Claim number at bits) cause = record { of_text = tt; status = (1, omega arith, refl) }
 among order source (faults.Diagram number at limit) cause = record { of_text = tt; status = (2, omega arith, refl) }
@@ -350,6 +351,7 @@ among order source (faults.Differs number bits) cause = record { of_text = tt; s
 among order source faults.NoPart cause = record { of_text = tt; status = (7, omega arith, refl) }
 among order source faults.Unsettled cause = record { of_text = tt; status = (8, omega arith, refl) }
 among order source (faults.FewOutputs inputs outputs) cause = record { of_text = tt; status = (9, omega arith, refl) }
+among order source faults.NoInput cause = record { of_text = tt; status = (10, omega arith, refl) }
 among order source fault cause = absurd cause.holds.holds
 
 pub one_outcome : HasOneOutcome promise

@@ -1,6 +1,8 @@
--- `verify`: that a circuit computes a program, for every input, whatever its output lines hold that
--- they may, and whatever its borrowed lines hold.
+-- `verify`: that a circuit computes a program, for every input that meets the claims that are
+-- taken for granted, whatever its output lines hold that they may, and whatever its borrowed lines
+-- hold.
 use Rattle.std.specs.Prelude.{◌≡◌, ◌⊎◌, ℕ, Bool, ◌+◌, ◌<◌, ◌≤◌, List, [], ◌∷◌, length, Some, codes}
+use Rattle.claim_assumptions.specs.Assumptions.{premise}
 use Rattle.circuit_commands.specs.declared.limits.TheConstants.{MOST_CIRCUIT_BYTES}
 use Rattle.circuit_commands.specs.Circuits.{ReadCircuit, Means, IsCircuitRefusal, line_count}
 use Rattle.circuit_verify.specs.Comparisons.{Comparison, beside, inputs_in, least_lines, of_tape, roles_in}
@@ -11,7 +13,7 @@ use Rattle.command_answers.specs.Outcomes.{Promise}
 use Rattle.command_answers.specs.declared.fault.CircuitRefusal.{CircuitRefusal}
 use Rattle.command_answers.specs.declared.fault.CircuitRefusal.TheVariants as circuits
 use Rattle.command_answers.specs.declared.fault.Fault.{Fault}
-use Rattle.command_answers.specs.declared.fault.Fault.TheVariants.{Refused, Claim, Diagram, CircuitDiagram, Circuit, FewOutputs, FewLines, WideGate, Differs, Unsettled, NoPart}
+use Rattle.command_answers.specs.declared.fault.Fault.TheVariants.{Refused, Claim, Diagram, CircuitDiagram, Circuit, FewOutputs, FewLines, WideGate, Differs, Unsettled, NoInput, NoPart}
 use Rattle.command_answers.specs.declared.fault.Refusal.TheVariants as refusals
 use Rattle.command_answers.specs.declared.limit.TextLimit.{TextLimit}
 use Rattle.program_texts.specs.Clean.{IsCleanCircuit}
@@ -40,10 +42,10 @@ pub record HasParts (source : List ℕ) (OfParts : List ℕ → List ℕ → Typ
   pub holds : OfParts program circuit
 
 -- the circuit that was read beside the tape of the program, which puts the outputs where the order
--- says, with its borrowed lines
+-- says, with its borrowed lines, on the inputs on which the claims hold that the order assumes
 abbrev pub comparison_of : OrderView → TapeView → ReadCircuit → Comparison
 comparison_of order tape circuit =
-    beside (of_tape tape)
+    beside (of_tape tape) (of_tape (premise order.assume tape))
     (record {
       lines = line_count circuit;
       limit = length circuit.gates;
@@ -51,24 +53,26 @@ comparison_of order tape circuit =
     })
     order.outputs order.borrow
 
--- the claims of the program hold on all inputs, the text means a circuit, and this holds of the two
+-- the claims of the program hold where the assumed ones do, the text means a circuit, and this
+-- holds of the two
 pub record Compares (order : OrderView) (OfTwo : Comparison → Type 0) (program circuit : List ℕ)
     : Type 0 where
   pub tape : TapeView
-  pub settled : LeavesSettled program order.nodes tape
+  pub settled : LeavesSettled program order.assume order.nodes tape
   pub read : ReadCircuit
   pub means : Means order.from circuit read
   pub holds : OfTwo (comparison_of order tape read)
 
 -- ---- what is written
 
--- The claims of the program hold on all inputs, and the circuit agrees with it, within the limit of
--- lines: it is a clean circuit for the program that puts the outputs where the order says, whose
--- inputs come first, then the output lines, the work lines and the borrowed ones.
+-- The claims of the program hold where the assumed ones do, and the circuit agrees with it there,
+-- within the limit of lines: it is a clean circuit for the program that puts the outputs where the
+-- order says, whose inputs come first, then the output lines, the work lines and the borrowed ones.
 pub record AreVerified (order : OrderView) (program circuit : List ℕ) : Type 0 where
   pub compared : Compares order IsVerified program circuit
-  pub clean : IsCleanCircuit compared.settled.left.program order.outputs order.borrow
-      (roles_in (comparison_of order compared.tape compared.read)) compared.read.gates
+  pub clean : IsCleanCircuit compared.settled.left.program order.assume order.outputs
+      order.borrow (roles_in (comparison_of order compared.tape compared.read))
+      compared.read.gates
 
 abbrev pub verified_text : List ℕ
 verified_text = codes "verified\n"
@@ -121,10 +125,11 @@ abbrev pub IsRefusedCircuit : OrderView → CircuitRefusal → List ℕ → List
 IsRefusedCircuit order refusal program circuit =
     (tape : TapeView) × LeavesTape program tape × IsCircuitRefusal order.from circuit refusal
 
--- the circuit means one, and a claim of the program stops
+-- the circuit means one, and no input meets the assumed claims, or a claim of the program stops
 abbrev pub StopsAtClaim : OrderView → Fault → List ℕ → List ℕ → Type 0
 StopsAtClaim order fault program circuit =
-    (read : ReadCircuit) × Means order.from circuit read × StopsSettling program order.nodes fault
+    (read : ReadCircuit) × Means order.from circuit read
+    × StopsSettling program order.assume order.nodes fault
 
 -- Why the parts of a source are not verified, in this order: the length of the program, that of the
 -- circuit, their texts, the claims, and the comparison.
@@ -136,6 +141,7 @@ StopsParts order (Refused (refusals.At kind at)) program circuit =
     (length circuit ≤ MOST_CIRCUIT_BYTES) × IsRefusal program (refusals.At kind at)
 StopsParts order (Circuit refusal) program circuit =
     IsRefusedCircuit order refusal program circuit
+StopsParts order NoInput program circuit = StopsAtClaim order NoInput program circuit
 StopsParts order (Claim number at bits) program circuit =
     StopsAtClaim order (Claim number at bits) program circuit
 StopsParts order (Diagram number at limit) program circuit =
@@ -180,7 +186,7 @@ LeavesNothingOpen fault = Unit {0}
 abbrev pub promise : Promise
 promise = record {
   reads = Some source_limit;
-  statuses = 3 ∷ 4 ∷ 5 ∷ 8 ∷ 13 ∷ 14 ∷ 15 ∷ 16 ∷ 17 ∷ 18 ∷ [];
+  statuses = 3 ∷ 4 ∷ 5 ∷ 8 ∷ 13 ∷ 14 ∷ 15 ∷ 16 ∷ 17 ∷ 18 ∷ 20 ∷ [];
   Gives = Gives;
   IsCause = IsCause;
   Serves = Serves;

@@ -2,8 +2,10 @@
 ghost use Rattle.std.specs.Prelude.{◌≡◌, IfErr, OnOk};
 ghost use Rattle.circuit_verify.specs.Compared.{IsReady, comparison};
 ghost use Rattle.circuit_verify.specs.Verdicts.{IsVerified};
+ghost use Rattle.claim_assumptions.specs.Assumptions.{premise};
 ghost use Rattle.claim_check.specs.Settled.{IsSettledOf};
 ghost use Rattle.revc_words.specs.Words.{IsWithinLimits, order_of};
+ghost use Rattle.revs_tape.specs.Tapes.{IsTape};
 ghost use Rattle.verify_command.specs.inside.Mappings.{AreCountable, IsCountable, IsNamedIn};
 ghost use Rattle.verify_command.specs.inside.Mappings.{diagrams_fault, not_comparable_fault};
 ghost use Rattle.verify_command.specs.inside.Mappings.{sums_fault, unverified_fault};
@@ -19,17 +21,21 @@ use revs_tape::Tape;
 use std::alloc::Global;
 use sum_verify::SumsFault;
 
-/// Compares a circuit with a tape, whose settled graph is given, by the way of the order. A fault
-/// is exactly that of the comparison, or want of memory, or that sums alone leave it unsettled.
+/// Compares a circuit with a tape, whose settled graph is given, and that of the claims that the
+/// order assumes, by the way of the order. A fault is exactly that of the comparison, or want of
+/// memory, or that sums alone leave it unsettled.
 pub fn compare(
     alloc: Global,
     tape: &Tape,
     graph: &Settled,
+    assumed: &Settled,
     circuit: &Circuit,
     order: &Order,
 ) -> Result<(), Fault>
     requires settled { IsSettledOf tape.now graph.now }
+    requires assumed { IsSettledOf (premise (order_of order.now).assume tape.now) assumed.now }
     requires limits { IsWithinLimits (order_of order.now) }
+    ensures tape { IsTape tape.now }
     ensures ok { OnOk result (IsVerified
         (comparison_with (order_of order.now) tape.now circuit.now)) }
     ensures err { IfErr result (λ fault. IsComparingFault (order_of order.now) fault
@@ -37,7 +43,7 @@ pub fn compare(
 {
     let values = order.values;
     let (placing, borrow) = (values.outputs, values.borrow);
-    match Compared::of(graph, tape.params(), circuit, placing, borrow) {
+    match Compared::of(graph, assumed, tape.params(), circuit, placing, borrow) {
         Ok(compared) => compare_ready(alloc, compared, order),
         Err(why) => Err(not_comparable_fault(circuit, why)),
     }

@@ -15,6 +15,7 @@ use crate::comparing::compare;
 use crate::limits::MOST_SOURCE_BYTES;
 use crate::parting::part;
 use circuit_commands::{MOST_CIRCUIT_BYTES, read_circuit};
+use claim_assumptions::premise;
 use command_answers::{CircuitRefusal, Fault, Refusal, TextLimit};
 use program_texts::{settle_tape, tape_of_text};
 use revc_io::{Failed, Sink, write_whole};
@@ -38,13 +39,14 @@ pub fn source_limit() -> TextLimit
     }
 }
 
-/// Verifies that the circuit of a source computes its program: on every input, whatever the output
-/// lines hold that the order lets them hold, with 0 on the work lines and whatever the borrowed
-/// lines hold, the outputs are added to the output lines, and every other line is left as it was.
-/// The lines are those of the inputs, then those of the outputs, then the work lines, then the
-/// borrowed ones. The way of the order says how the two are compared: it serves where that is not
-/// by sums alone. A fault is exactly that of the source, of a part or of the two, or want of
-/// memory, or that sums alone leave the circuit unsettled.
+/// Verifies that the circuit of a source computes its program: on every input that meets the claims
+/// that the order assumes, whatever the output lines hold that the order lets them hold, with 0 on
+/// the work lines and whatever the borrowed lines hold, the outputs are added to the output lines,
+/// or take the place of the inputs, and every other line is left as it was. The lines are those of
+/// the inputs, then those of the outputs, then the work lines, then the borrowed ones. The way of
+/// the order says how the two are compared: it serves where that is not by sums alone. A fault is
+/// exactly that of the source, of a part or of the two, or want of memory, or that sums alone leave
+/// the circuit unsettled.
 pub fn verify(alloc: Global, source: &[u8], order: &Order) -> Result<(), Fault>
     requires short { length source.now ≤ MOST_SOURCE_BYTES }
     requires limits { IsWithinLimits (order_of order.now) }
@@ -83,11 +85,12 @@ fn verify_texts(alloc: Global, program: &[u8], circuit: &[u8], order: &Order) ->
     let values = order.values;
     let tape = tape_of_text(alloc, program)?;
     let read = read_circuit(alloc, circuit, values.from)?;
-    let graph = settle_tape(&tape, values.nodes)?;
+    let graph = settle_tape(&tape, values.assume, values.nodes)?;
+    let assumed = premise(&tape, values.assume)?;
     let circuit = read.circuit();
     // This call says that the gates stand on the lines.
     let _ = circuit.lines();
-    compare(alloc, &tape, &graph, circuit, order)
+    compare(alloc, &tape, &graph, &assumed, circuit, order)
 }
 
 /// Writes that a circuit is verified. It takes no memory.

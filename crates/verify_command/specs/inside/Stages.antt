@@ -1,5 +1,6 @@
 -- Why two parts of a source are not verified, or there was no memory left.
 use Rattle.std.specs.Prelude.{ℕ, List}
+use Rattle.claim_assumptions.specs.Assumptions.{premise}
 use Rattle.circuit_verify.specs.Comparisons.{Comparison, beside, of_tape}
 use Rattle.circuit_verify.specs.Verdicts.{IsComparable}
 use Rattle.command_answers.specs.declared.fault.Fault.{Fault}
@@ -17,7 +18,8 @@ IsPartsFault order program circuit fault = StopsParts order fault program circui
 
 -- a circuit beside the tape of a program, as the order asks
 abbrev pub comparison_with : OrderView → TapeView → CircuitView → Comparison
-comparison_with order tape circuit = beside (of_tape tape) circuit order.outputs order.borrow
+comparison_with order tape circuit =
+    beside (of_tape tape) (of_tape (premise order.assume tape)) circuit order.outputs order.borrow
 
 -- why the two are not verified, or there was no memory left where they can be compared
 abbrev pub IsComparingFault : OrderView → Fault → Comparison → Type 0
