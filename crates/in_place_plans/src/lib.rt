@@ -1,0 +1,15 @@
+//! Circuits in place: the outputs of a graph of sums of single products take the lines of its
+//! inputs. What is found is to be verified, so of it nothing is promised.
+#![tactic(auto)]
+
+mod basis;
+mod closing;
+mod lines;
+mod placing;
+mod planner;
+mod spaces;
+mod task;
+mod vectors;
+
+pub use lines::Flip;
+pub use planner::plan;
