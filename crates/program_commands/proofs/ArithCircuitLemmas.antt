@@ -39,6 +39,7 @@ usual_within format = record {
   borrow = omega arith;
   nodes = omega arith;
   few_nodes = omega arith;
+  few_assumed = omega arith;
   few_bits = omega arith;
   some_bits = tt;
   some_factor = λ e. absurd (no_product e);
@@ -49,21 +50,21 @@ usual_within format = record {
 
 -- a clean circuit of the program adds what the kind says
 numbers_added : (order : OrderView) (text : List ℕ) (t : Computes order.kind order.number order.by text) (roles : Roles) (gates : List GateView)
-    → IsCleanCircuit t.program (Added Any) 0 roles gates → (input : List Bool) → length input ≡ inputs_of order.kind order.number
+    → IsCleanCircuit t.program 0 (Added Any) 0 roles gates → (input : List Bool) → length input ≡ inputs_of order.kind order.number
     → AddsNumbers order roles gates input
 numbers_added order text t roles gates clean input whole =
     let is : IsInput t.program.params input = whole ∙ sym t.inputs in
-    let on = clean.computes input [] is refl in
+    let on = clean.computes input [] is (λ tape of. tt) refl in
     record { output = on.output; size = t.outputs input on.output is on.is; meets = t.meets input on.output is on.is; adds = λ held wide. on.adds held wide tt }
 
 -- it has an output line for each output
 outputs_are : (order : OrderView) (text : List ℕ) (t : Computes order.kind order.number order.by text) (roles : Roles) (gates : List GateView)
-    → IsCleanCircuit t.program (Added Any) 0 roles gates → roles.outputs ≡ outputs_of order.kind order.number order.by
+    → IsCleanCircuit t.program 0 (Added Any) 0 roles gates → roles.outputs ≡ outputs_of order.kind order.number order.by
 outputs_are order text t roles gates clean =
     let count = inputs_of order.kind order.number in
     let input : List Bool = replicate count false in
     let is : IsInput t.program.params input = length-replicate count false ∙ sym t.inputs in
-    let on = clean.computes input [] is refl in
+    let on = clean.computes input [] is (λ tape of. tt) refl in
     sym on.size ∙ t.outputs input on.output is on.is
 
 circuit_of : (format : Format) (order : OrderView) (file : List ℕ) → Computes order.kind order.number order.by (program_text order)
@@ -72,8 +73,8 @@ circuit_of format order file t c =
     let roles = c.clean.roles in
     let gates = c.clean.gates in
     let same : t.program ≡ c.settled.left.program = c.only t.program t.formed in
-    let clean : IsCleanCircuit t.program (Added Any) 0 roles gates =
-    subst (λ (p : ProgramView). IsCleanCircuit p (Added Any) 0 roles gates) (sym same) c.clean.circuit in
+    let clean : IsCleanCircuit t.program 0 (Added Any) 0 roles gates =
+    subst (λ (p : ProgramView). IsCleanCircuit p 0 (Added Any) 0 roles gates) (sym same) c.clean.circuit in
     record {
       roles = roles;
       gates = gates;

@@ -1,4 +1,4 @@
--- `compile` gives a file for a text, or has one exact cause, and serves each program whose claims hold and that keeps the budgets.
+-- A circuit beside the inputs is compiled for a text, or there is one exact cause why it is not.
 use Rattle.std.proofs.Common.{◌≡◌, ℕ, List, [], ◌∷◌, inl, refl, sym, subst, arith}
 use Rattle.claim_check.specs.Measures.{AreMeasuresOf}
 use Rattle.revs_tape.specs.Tapes.{TapeView}
@@ -6,7 +6,7 @@ use Rattle.command_answers.specs.declared.fault.Fault.{Fault}
 use Rattle.command_answers.specs.declared.fault.Fault.TheVariants as faults
 use Rattle.revc_words.specs.Words.{OrderView}
 use Rattle.command_answers.specs.Outcomes.{HasOneOutcome, IsFaultOfText, IsNoBudget}
-use Rattle.program_commands.specs.Compile.{HasFittingRow, IsCause, KeepsBudget, PassesBudget, PassesGates, PassesLines, promise}
+use Rattle.program_commands.specs.Compile.{HasFittingRow, IsCause, KeepsBudget, PassesBudget, PassesGates, PassesLines}
 use Rattle.program_commands.specs.Outcomes.{IsBudgetFault, IsCompileFault}
 use Rattle.program_texts.specs.Settling.{LeavesSettled}
 use Rattle.program_texts.proofs.SettlingLemmas.{never_stopped, one_left, one_stop, settled_or_stopped}
@@ -49,7 +49,7 @@ pub budgets_alone : (order : OrderView) (text : List ℕ) (p : ProgramView) (fau
 budgets_alone order text p (faults.Memory _) formed none h = tt
 budgets_alone order text p (faults.Lines need limit) formed none h = h
 budgets_alone order text p (faults.Gates limit) formed none h = h
-budgets_alone order text p fault formed none h = absurd (never_stopped text order.nodes p fault formed none h)
+budgets_alone order text p fault formed none h = absurd (never_stopped text order.assume order.nodes p fault formed none h)
 
 -- ---- `compile`
 
@@ -58,39 +58,21 @@ has_row : (order : OrderView) (text : List ℕ) → KeepsBudget order text → H
 has_row order text k = record { tape = k.tape; left = k.settled.left; measures = k.measures; are = k.are; fits = k.fits }
 
 -- where the claims hold, no exact fault has its cause
-pub planned_or_caused : (order : OrderView) (text : List ℕ) (tape : TapeView) (fault : Fault) → LeavesSettled text order.nodes tape
+pub planned_or_caused : (order : OrderView) (text : List ℕ) (tape : TapeView) (fault : Fault) → LeavesSettled text order.assume order.nodes tape
     → IsCause order text fault → IsNoBudget fault → ⊥
 planned_or_caused order text tape (faults.Lines need limit) settled cause exact = exact
 planned_or_caused order text tape (faults.Gates limit) settled cause exact = exact
-planned_or_caused order text tape fault settled cause exact = settled_or_stopped text order.nodes tape fault settled cause
+planned_or_caused order text tape fault settled cause exact = settled_or_stopped text order.assume order.nodes tape fault settled cause
 
 pub keeps_free : (order : OrderView) (text : List ℕ) (fault : Fault) → KeepsBudget order text → IsCause order text fault → ⊥
 keeps_free order text (faults.Lines need limit) served cause = fits_or_passes_lines order text need limit (has_row order text served) cause
 keeps_free order text (faults.Gates limit) served cause = fits_or_passes_gates order text limit (has_row order text served) cause
-keeps_free order text fault served cause = settled_or_stopped text order.nodes served.tape fault served.settled cause
+keeps_free order text fault served cause = settled_or_stopped text order.assume order.nodes served.tape fault served.settled cause
 
 pub one_cause : (order : OrderView) (text : List ℕ) (fault exact : Fault) → IsCause order text fault → IsCause order text exact → IsNoBudget exact
     → exact ≡ fault
 one_cause order text fault (faults.Lines need limit) a b is = absurd is
 one_cause order text fault (faults.Gates limit) a b is = absurd is
-one_cause order text (faults.Lines need limit) exact a b is = absurd (settled_or_stopped text order.nodes a.tape exact a.settled b)
-one_cause order text (faults.Gates limit) exact a b is = absurd (settled_or_stopped text order.nodes a.tape exact a.settled b)
-one_cause order text fault exact a b is = one_stop text order.nodes exact fault b a
-
--- the statuses of the causes
-pub among : (order : OrderView) (text : List ℕ) (fault : Fault) → IsCause order text fault → IsFaultOfText (3 ∷ 4 ∷ 5 ∷ 6 ∷ 7 ∷ []) fault
-among order text (faults.Refused refusal) cause = record { of_text = tt; status = (0, omega arith, refl) }
-among order text (faults.Claim number at digits) cause = record { of_text = tt; status = (1, omega arith, refl) }
-among order text (faults.Diagram number at limit) cause = record { of_text = tt; status = (2, omega arith, refl) }
-among order text (faults.Lines need limit) cause = record { of_text = tt; status = (3, omega arith, refl) }
-among order text (faults.Gates limit) cause = record { of_text = tt; status = (4, omega arith, refl) }
-among order text fault cause = absurd cause
-
-pub one_outcome : HasOneOutcome promise
-one_outcome = record {
-  never_both = λ order text written fault given cause exact. planned_or_caused order text given.tape fault given.settled cause exact;
-  one_cause = λ order text fault exact cause other is. inl (one_cause order text fault exact cause other is);
-  free = λ order text fault served cause. keeps_free order text fault served cause;
-  long = λ order text over. over;
-  among = λ order text fault cause. among order text fault cause;
-}
+one_cause order text (faults.Lines need limit) exact a b is = absurd (settled_or_stopped text order.assume order.nodes a.tape exact a.settled b)
+one_cause order text (faults.Gates limit) exact a b is = absurd (settled_or_stopped text order.assume order.nodes a.tape exact a.settled b)
+one_cause order text fault exact a b is = one_stop text order.assume order.nodes exact fault b a

@@ -1,6 +1,8 @@
 pub mod CompileLemmas
 pub mod OrderingLemmas
 pub mod PlanLemmas
+pub mod InPlaceLemmas
+pub mod PlacedLemmas
 pub mod BenchLemmas
 pub mod ArithTextLemmas
 pub mod ArithCircuitLemmas

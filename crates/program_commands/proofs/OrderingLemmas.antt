@@ -49,13 +49,13 @@ computes_still p start roles old new input bits is c = record {
 }
 
 clean_still : (p : ProgramView) (start : Start) (borrowed : ℕ) (roles : Roles) (old new : List GateView) → AreReordered old new
-    → IsCleanCircuit p (Added start) borrowed roles old → IsCleanCircuit p (Added start) borrowed roles new
+    → IsCleanCircuit p 0 (Added start) borrowed roles old → IsCleanCircuit p 0 (Added start) borrowed roles new
 clean_still p start borrowed roles old new is c = record {
   inputs = c.inputs;
   borrows = c.borrows;
   placed = gates_on-reordered (lines_in roles) old new is c.placed;
   narrow = narrow-reordered old new is c.narrow;
-  computes = λ input bits fits long. computes_still p start roles old new input bits is (c.computes input bits fits long);
+  computes = λ input bits fits met long. computes_still p start roles old new input bits is (c.computes input bits fits met long);
 }
 
 planned_still : (order : OrderView) (tape : TapeView) (roles : Roles) (old new : List GateView) → AreWrittenFor order.plan old new

@@ -138,8 +138,8 @@ as_laid Lean gates = AreReordered-refl gates
 as_laid Pebble gates = refl
 as_laid Shallow gates = refl
 
-planned : (order : OrderView) (text : List ℕ) (laid : LaidView) (tape : TapeView) (s : SettledView) (l : LeavesSettled text order.nodes tape)
-    → IsSettledWithin tape order.nodes s → IsPlanOf order.plan s (budget_of order) laid
+planned : (order : OrderView) (text : List ℕ) (laid : LaidView) (tape : TapeView) (s : SettledView) (l : LeavesSettled text order.assume order.nodes tape)
+    → IsSettledWithin tape order.assume order.nodes s → IsPlanOf order.plan s (budget_of order) laid
     → IsCleanPlan (start_of order.plan) laid l.left.program (budget_of order)
     → IsPlannedFor order text tape laid
 planned order text laid tape s l settled plan c =
@@ -154,7 +154,7 @@ planned order text laid tape s l settled plan c =
           borrows = c.plan.borrowed;
           placed = subst (λ n. AreGatesOn n laid.circuit.gates) (sym plan.sum_of) plan.on;
           narrow = plan.narrow;
-          computes = computes_on (start_of order.plan) laid l.left.program (budget_of order) c;
+          computes = λ input rest size met many. computes_on (start_of order.plan) laid l.left.program (budget_of order) c input rest size many;
         };
         few_lines = omega arith;
         few_gates = c.plan.gates;
@@ -181,18 +181,18 @@ planned order text laid tape s l settled plan c =
 
 -- a plan of a tape's settled graph is one of each text that leaves the tape
 pub plan_of_texts : {E : Type 0} (order : OrderView) (tape : TapeView) (s : SettledView) (r : Result LaidView E) → IsWithinLimits order
-    → IsSettledWithin tape order.nodes s → IfOk r (IsPlanOf order.plan s (budget_of order))
+    → IsSettledWithin tape order.assume order.nodes s → IfOk r (IsPlanOf order.plan s (budget_of order))
     → IfOk r (λ laid. ForTexts tape (λ text. IsPlannedFor order text tape laid))
 plan_of_texts order tape s (Err e) limits settled h = tt
 plan_of_texts order tape s (Ok laid) limits settled plan = record {
   of_text = λ text left.
-      let l : LeavesSettled text order.nodes tape = record { left = left; hold = settled.hold } in
+      let l : LeavesSettled text order.assume order.nodes tape = record { left = left; hold = settled.hold } in
       planned order text laid tape s l settled plan
       (clean_plan order.plan text laid tape s (budget_of order) left settled.of_tape plan limits.lines limits.gates);
 }
 
 -- the file of a plan means the plan, in each format
-means_itself : (format : Format) (laid : LaidView) → IsWritable laid → laid.inputs + laid.outputs + laid.work + laid.borrowed ≡ laid.circuit.lines
+pub means_itself : (format : Format) (laid : LaidView) → IsWritable laid → laid.inputs + laid.outputs + laid.work + laid.borrowed ≡ laid.circuit.lines
     → AreGatesOn laid.circuit.lines laid.circuit.gates → AreNarrow laid.circuit.gates
     → MeansCompiledIn format (file_of format laid) (roles_of laid) laid.circuit.gates
 means_itself format laid can sum_of on narrow =
@@ -236,7 +236,7 @@ greatest : (a limit : ℕ) → cond (nat_lt limit a) a (limit + 1) ≡ max a (li
 greatest a limit = elim (leb_tells (suc limit) a) [ inl t ↦ rw t.0 (omega arith) | inr t ↦ rw t.0 (omega arith) ]
 
 -- a settled graph has no plan only where the measures of its tape leave no row
-pub planning_fault : (order : OrderView) (text : List ℕ) (tape : TapeView) (s : SettledView) (fault : Fault) → LeavesSettled text order.nodes tape
+pub planning_fault : (order : OrderView) (text : List ℕ) (tape : TapeView) (s : SettledView) (fault : Fault) → LeavesSettled text order.assume order.nodes tape
     → IsSettledOf tape s → IsNoLarger tape s → IsPlanningFault order.plan s (budget_of order) fault → IsCompileFault order text fault
 planning_fault order text tape s (faults.Lines need limit) l is no_larger h =
     let within : (m : Measures) → AreMeasuresOf tape m → IsWithin s m = λ m are. settled_graphs_are_within tape s m is no_larger are in
@@ -272,18 +272,18 @@ stops_compile order text (faults.Memory _) h = tt
 stops_compile order text fault h = absurd h
 
 -- and so does what stops the claims
-pub settling_fault : (order : OrderView) (text : List ℕ) (fault : Fault) → IsSettlingFault text order.nodes fault → IsCompileFault order text fault
+pub settling_fault : (order : OrderView) (text : List ℕ) (fault : Fault) → IsSettlingFault text order.assume order.nodes fault → IsCompileFault order text fault
 settling_fault order text (faults.Memory _) h = tt
 settling_fault order text (faults.Lines need limit) h = absurd h
 settling_fault order text (faults.Gates limit) h = absurd h
 settling_fault order text fault h = h
 
-pub settling_stops : (order : OrderView) (tape : TapeView) (fault : Fault) → ForTexts tape (λ text. IsSettlingFault text order.nodes fault)
+pub settling_stops : (order : OrderView) (tape : TapeView) (fault : Fault) → ForTexts tape (λ text. IsSettlingFault text order.assume order.nodes fault)
     → ForTexts tape (λ text. IsCompileFault order text fault)
 settling_stops order tape fault h = record { of_text = λ text left. settling_fault order text fault (h.of_text text left) }
 
 -- and what leaves a settled graph without a plan
-pub planning_stops : {T : Type 0} (order : OrderView) (tape : TapeView) (s : SettledView) (r : Result T Fault) → IsSettledWithin tape order.nodes s
+pub planning_stops : {T : Type 0} (order : OrderView) (tape : TapeView) (s : SettledView) (r : Result T Fault) → IsSettledWithin tape order.assume order.nodes s
     → IfErr r (IsPlanningFault order.plan s (budget_of order)) → IfErr r (λ fault. ForTexts tape (λ text. IsCompileFault order text fault))
 planning_stops order tape s (Ok laid) settled h = tt
 planning_stops order tape s (Err fault) settled h = record {

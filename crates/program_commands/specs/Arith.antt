@@ -37,6 +37,7 @@ compile_order format = record {
   gates = USUAL_GATES;
   borrow = 0;
   nodes = USUAL_NODES;
+  assume = 0;
   outputs = Added Zero;
   way = Diagrams;
   format = format;

@@ -27,4 +27,4 @@ pub record IsClean (format : Format) (text : List ℕ) (p : ProgramView) (start 
   pub roles : Roles
   pub gates : List GateView
   pub meaning : MeansCompiledIn format text roles gates
-  pub circuit : IsCleanCircuit p (Added start) borrowed roles gates
+  pub circuit : IsCleanCircuit p 0 (Added start) borrowed roles gates

@@ -1,7 +1,5 @@
 -- `compile`: the file of a program's clean circuit.
 use Rattle.std.specs.Prelude.{◌≡◌, ◌⊎◌, ℕ, ◌+◌, ◌*◌, ◌≤◌, List, length, max, Some, [], ◌∷◌}
-use Rattle.command_answers.specs.Outcomes.{Promise, budget_promise}
-use Rattle.program_texts.specs.Refusals.{program_limit}
 use Rattle.claim_check.specs.Budgets.{Measures}
 use Rattle.claim_check.specs.Measures.{AreMeasuresOf, IsNoLarger}
 use Rattle.claim_check.specs.Settled.{SettledView, IsSettledOf}
@@ -102,26 +100,26 @@ pub record IsPlannedAs (order : OrderView) (tape : TapeView) (roles : Roles)
   pub small_depth : HasSmallDepth order tape graph gates
 
 -- The text is well formed, and that of one program, which leaves this tape and whose claims hold on
--- all inputs, within the nodes; the gates are a clean circuit for it, from what the order's plan
--- allows on the output lines, with its borrowed lines, within its budgets, and of a plan that it
--- allows.
+-- the inputs that meet the first so many, within the nodes; the gates are a clean circuit for it on
+-- every input, from what the order's plan allows on the output lines, with its borrowed lines,
+-- within its budgets, and of a plan that it allows.
 pub record HasCircuit (order : OrderView) (text : List ℕ) (tape : TapeView) (roles : Roles)
     (gates : List GateView) : Type 0 where
-  pub settled : LeavesSettled text order.nodes tape
+  pub settled : LeavesSettled text order.assume order.nodes tape
   pub only : (p : ProgramView) → IsWellFormed text p → p ≡ settled.left.program
-  pub clean : IsCleanCircuit settled.left.program (Added (start_of order.plan)) order.borrow roles
-      gates
+  pub clean : IsCleanCircuit settled.left.program 0 (Added (start_of order.plan)) order.borrow
+      roles gates
   pub few_lines : lines_in roles ≤ order.lines
   pub few_gates : length gates ≤ order.gates
   pub planned : IsPlannedAs order tape roles gates
 
--- The text is well formed, and that of one program, whose claims hold on all inputs, within the
--- nodes; the file is a clean one for it in the order's format, from what the order's plan allows on
--- the output lines, with its borrowed lines and within its budgets, and the text of its gates,
--- which the plan allows.
+-- The text is well formed, and that of one program, whose claims hold on the inputs that meet the
+-- first so many, within the nodes; the file is a clean one for it on every input, in the order's
+-- format, from what the order's plan allows on the output lines, with its borrowed lines and within
+-- its budgets, and the text of its gates, which the plan allows.
 pub record IsCompiled (order : OrderView) (text file : List ℕ) : Type 0 where
   pub tape : TapeView
-  pub settled : LeavesSettled text order.nodes tape
+  pub settled : LeavesSettled text order.assume order.nodes tape
   pub only : (p : ProgramView) → IsWellFormed text p → p ≡ settled.left.program
   pub clean : IsClean order.format file settled.left.program (start_of order.plan) order.borrow
   pub few_lines : lines_in clean.roles ≤ order.lines
@@ -138,7 +136,7 @@ least_lines tape order = inputs_of tape + outputs_of tape + order.borrow
 -- one line more than the limit.
 pub record PassesLines (order : OrderView) (text : List ℕ) (need limit : ℕ) : Type 0 where
   pub tape : TapeView
-  pub settled : LeavesSettled text order.nodes tape
+  pub settled : LeavesSettled text order.assume order.nodes tape
   pub few : (m : Measures) → AreMeasuresOf tape m → HasFewLines order.plan (budget_of order) m
   pub no_row : (m : Measures) → AreMeasuresOf tape m
       → ¬ SomeRowFits order.plan (budget_of order) m
@@ -149,7 +147,7 @@ pub record PassesLines (order : OrderView) (text : List ℕ) (need limit : ℕ) 
 -- row that the order allows fits.
 pub record PassesGates (order : OrderView) (text : List ℕ) (limit : ℕ) : Type 0 where
   pub tape : TapeView
-  pub settled : LeavesSettled text order.nodes tape
+  pub settled : LeavesSettled text order.assume order.nodes tape
   pub few : (m : Measures) → AreMeasuresOf tape m → HasFewGates order.plan (budget_of order) m
   pub no_row : (m : Measures) → AreMeasuresOf tape m
       → ¬ SomeRowFits order.plan (budget_of order) m
@@ -159,7 +157,7 @@ pub record PassesGates (order : OrderView) (text : List ℕ) (limit : ℕ) : Typ
 -- budgets
 pub record KeepsBudget (order : OrderView) (text : List ℕ) : Type 0 where
   pub tape : TapeView
-  pub settled : LeavesSettled text order.nodes tape
+  pub settled : LeavesSettled text order.assume order.nodes tape
   pub measures : Measures
   pub are : AreMeasuresOf tape measures
   pub fits : SomeRowFits order.plan (budget_of order) measures
@@ -187,12 +185,9 @@ Gives order text written = IsCompiled order text written
 abbrev pub IsCause : OrderView → List ℕ → Fault → Type 0
 IsCause order text (Lines need limit) = PassesLines order text need limit
 IsCause order text (Gates limit) = PassesGates order text limit
-IsCause order text fault = StopsSettling text order.nodes fault
+IsCause order text fault = StopsSettling text order.assume order.nodes fault
 
--- where something is, unless memory or a device is wanting: the claims hold on all inputs, within
--- the nodes, and some row of the budget numbers that the order allows fits
+-- where something is, unless memory or a device is wanting: the claims hold where the assumed ones
+-- do, within the nodes, and some row of the budget numbers that the order allows fits
 abbrev pub Serves : OrderView → List ℕ → Type 0
 Serves order text = KeepsBudget order text
-
-abbrev pub promise : Promise
-promise = budget_promise (Some program_limit) (3 ∷ 4 ∷ 5 ∷ 6 ∷ 7 ∷ []) Gives IsCause Serves

@@ -1,5 +1,7 @@
 pub mod Clean
 pub mod Compile
+pub mod InPlace
+pub mod Placed
 pub mod Gen
 pub mod Bench
 pub mod Texts

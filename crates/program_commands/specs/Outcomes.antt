@@ -35,7 +35,7 @@ abbrev pub IsCompileFault : OrderView → List ℕ → Fault → Type 0
 IsCompileFault order text (Memory _) = Unit {0}
 IsCompileFault order text (faults.Lines need limit) = PassesLines order text need limit
 IsCompileFault order text (faults.Gates limit) = PassesGates order text limit
-IsCompileFault order text fault = StopsSettling text order.nodes fault
+IsCompileFault order text fault = StopsSettling text order.assume order.nodes fault
 
 -- why a text that is well formed and makes no claim has no clean plan, or there was no memory left
 abbrev pub IsBudgetFault : OrderView → List ℕ → Fault → Type 0

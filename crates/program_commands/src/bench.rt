@@ -1,5 +1,5 @@
 // `bench`: the sizes of an adder's program, and of its compiled circuit.
-ghost use Rattle.std.specs.Prelude.{◌≡◌, IfOk, IfErr};
+ghost use Rattle.std.specs.Prelude.{◌≡◌, ◌≤◌, length, IfOk, IfErr};
 ghost use Rattle.command_answers.specs.Outcomes.{HasOneOutcome};
 ghost use Rattle.circuit_plans.specs.Plans.{roles_of};
 ghost use Rattle.program_commands.specs.Bench.{promise, AreSizesOf, IsBenched};
@@ -10,6 +10,7 @@ ghost use Rattle.arith_templates.specs.Adder.{adder_text};
 ghost use Rattle.revc_io.specs.Faults.{HasCause};
 ghost use Rattle.revc_io.specs.Passing.{Writes};
 ghost use Rattle.revc_words.specs.Words.{IsWithinLimits, order_of};
+ghost use Rattle.revs_terms.specs.declared.limits.TheConstants.{MOST_RUN_WRITES};
 
 use crate::planning::plan_tape;
 use arith_templates::Kind;
@@ -59,6 +60,7 @@ pub fn measure(alloc: Global, order: &Order) -> Result<BenchSizes, Fault>
 fn measure_tape(alloc: Global, tape: &Tape, order: &Order) -> Result<BenchSizes, Fault>
     requires limits { IsWithinLimits (order_of order.now) }
     requires left { LeavesTape (adder_text order.now.number) tape.now }
+    requires few { length tape.now.entries ≤ MOST_RUN_WRITES }
     ensures ok { IfOk result (λ sizes. IsBenched (order_of order.now) (bench_text sizes)) }
     ensures err { IfErr result (IsCompileFault (order_of order.now) (adder_text order.now.number)) }
 {

@@ -1,7 +1,6 @@
-// `compile`: from a program text to the file of a clean circuit.
+// From a program text to the file of a clean circuit beside the inputs.
 ghost use Rattle.std.specs.Prelude.{◌≤◌, length, IfOk, IfErr};
-ghost use Rattle.command_answers.specs.Outcomes.{HasOneOutcome};
-ghost use Rattle.program_commands.specs.Compile.{promise, IsCompiled};
+ghost use Rattle.program_commands.specs.Compile.{IsCompiled};
 ghost use Rattle.program_commands.specs.Outcomes.{IsCompileFault, IsWritable, file_of};
 ghost use Rattle.revc_io.specs.Faults.{HasCause};
 ghost use Rattle.revc_io.specs.Passing.{Writes};
@@ -17,16 +16,11 @@ use revc_words::{Format, Order};
 use revs_parser::MOST_BYTES;
 use std::alloc::Global;
 
-/// What `compile` gives, its exact causes and where it serves exclude one another, and it has one
-/// exact cause at most.
-pub fn one_outcome()
-    ensures { HasOneOutcome promise }
-{}
-
-/// The plan of the clean file of a text's program, whose claims hold on all inputs, within the
-/// budgets of an order. A text is refused exactly for its refusal, a claim stops exactly where it
-/// does; a budget is passed only where no row of the budget numbers that the order allows fits; no
-/// other fault comes but want of memory.
+/// The plan of the clean file of a text's program, whose claims hold on the inputs that meet the
+/// first so many, within the budgets of an order. A text is refused exactly for its refusal, a claim
+/// stops exactly where it does, and that no input meets these exactly where none does; a budget is
+/// passed only where no row of the budget numbers that the order allows fits; no other fault comes
+/// but want of memory.
 pub fn compile(alloc: Global, text: &[u8], order: &Order) -> Result<Laid, Fault>
     requires short { length text.now ≤ MOST_BYTES }
     requires limits { IsWithinLimits (order_of order.now) }

@@ -6,5 +6,7 @@ pub mod arith;
 pub mod bench;
 pub mod compile;
 pub mod generate;
+pub mod in_place;
 mod ordering;
+pub mod placed;
 mod planning;

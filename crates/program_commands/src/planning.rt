@@ -1,11 +1,12 @@
 // From a tape to the plan of a clean circuit.
-ghost use Rattle.std.specs.Prelude.{◌≡◌, IfOk, IfErr};
+ghost use Rattle.std.specs.Prelude.{◌≡◌, ◌≤◌, length, IfOk, IfErr};
 ghost use Rattle.revc_words.specs.Words.{IsWithinLimits, order_of};
 ghost use Rattle.program_commands.specs.Compile.{budget_of};
 ghost use Rattle.program_commands.specs.Outcomes.{IsCompileFault};
 ghost use Rattle.program_commands.specs.inside.Mappings.{plan_fault};
 ghost use Rattle.program_commands.specs.inside.Plans.{IsPlanOf, IsPlannedFor};
 ghost use Rattle.program_texts.specs.Settling.{ForTexts};
+ghost use Rattle.revs_terms.specs.declared.limits.TheConstants.{MOST_RUN_WRITES};
 ghost use Rattle.program_commands.specs.inside.Plans.{IsPlanningFault};
 
 use circuit_plans::{Budget, Laid, PlanFault};
@@ -18,17 +19,19 @@ use revs_tape::Tape;
 use std::alloc::Global;
 
 /// The first plan of a tape that fits the budgets of an order, a clean circuit of each text that
-/// leaves the tape, whose claims hold on all inputs. A claim stops exactly where it does; a budget
-/// is passed only where no row of the budget numbers that the order allows fits; no other fault
+/// leaves the tape, whose claims hold on the inputs that meet the first so many. A claim stops
+/// exactly where it does, and that no input meets these exactly where none does; a budget is passed
+/// only where no row of the budget numbers that the order allows fits; no other fault
 /// comes but want of memory.
 pub fn plan_tape(alloc: Global, tape: &Tape, order: &Order) -> Result<Laid, Fault>
-    requires { IsWithinLimits (order_of order.now) }
+    requires limits { IsWithinLimits (order_of order.now) }
+    requires few { length tape.now.entries ≤ MOST_RUN_WRITES }
     ensures ok { IfOk result (λ laid. ForTexts tape.now
         (λ text. IsPlannedFor (order_of order.now) text tape.now laid)) }
     ensures err { IfErr result (λ fault. ForTexts tape.now
         (λ text. IsCompileFault (order_of order.now) text fault)) }
 {
-    let settled = settle_tape(tape, order.values.nodes)?;
+    let settled = settle_tape(tape, order.values.assume, order.values.nodes)?;
     lay(alloc, &settled, order)
 }
 

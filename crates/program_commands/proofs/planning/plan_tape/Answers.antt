@@ -10,7 +10,7 @@ returns-in_err-settled-clause-err c =
 
 pub returns-clause-ok : goal.returns-clause-ok
 returns-clause-ok c =
-    plan_of_texts (order_of c.args.order.now) c.args.tape.now c.in_ok-settled.settled c.lay.result c.requires c.in_ok-settled.ensures.ok c.lay.ensures.ok
+    plan_of_texts (order_of c.args.order.now) c.args.tape.now c.in_ok-settled.settled c.lay.result c.requires.limits c.in_ok-settled.ensures.ok c.lay.ensures.ok
 
 pub returns-clause-err : goal.returns-clause-err
 returns-clause-err c =
