@@ -5,7 +5,7 @@ use Rattle.circuit_commands.proofs.ConvertLemmas.{convert_outcome}
 use Rattle.circuit_commands.proofs.TidyLemmas.{tidy_outcome}
 use Rattle.program_commands.proofs.ArithOutcomeLemmas as arith
 use Rattle.program_commands.proofs.BenchLemmas.{bench_outcome, gen_outcome}
-use Rattle.program_commands.proofs.CompileLemmas as compile
+use Rattle.program_commands.proofs.PlacedLemmas as compile
 use Rattle.program_texts.proofs.CheckLemmas as check
 use Rattle.program_texts.proofs.EvalLemmas as eval
 use Rattle.revc_driver.specs.Commands.{promise_of}

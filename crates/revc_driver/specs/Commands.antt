@@ -6,7 +6,7 @@ use Rattle.command_answers.specs.declared.limit.TextLimit.{TextLimit}
 use Rattle.revc_words.specs.declared.commands.Command.{Command}
 use Rattle.revc_words.specs.declared.commands.Command.TheVariants as commands
 use Rattle.revc_words.specs.Words.{OrderView}
-use Rattle.program_commands.specs.Compile as compile
+use Rattle.program_commands.specs.Placed as compile
 use Rattle.program_texts.specs.Check as check
 use Rattle.program_texts.specs.Eval as eval
 use Rattle.program_commands.specs.Gen as gen

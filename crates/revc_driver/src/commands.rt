@@ -19,7 +19,7 @@ use command_answers::{
 };
 use program_commands::arith::Made;
 use program_commands::bench::BenchSizes;
-use program_commands::{arith, bench, compile, generate};
+use program_commands::{arith, bench, compile, generate, placed};
 use program_texts::{check, eval};
 use revc_base::Bits;
 use revc_io::{Failed, Sink};
@@ -138,10 +138,12 @@ pub fn prepare(alloc: Global, order: &Order, text: Vec<u8>) -> Result<Prepared, 
 {
     match order.command {
         Command::Compile => {
-            let laid = compile::compile(alloc, &text, order)?;
+            let laid = placed::compile_placed(alloc, &text, order)?;
             Ok(Prepared::File(order.values.format, laid))
         }
-        Command::Check => check::check(alloc, &text, order.values.nodes).map(Prepared::Claims),
+        Command::Check => check::check(alloc, &text, order.values.assume, order.values.nodes).map(
+            Prepared::Claims,
+        ),
         Command::Eval => eval::evaluate(alloc, &text, order.word()).map(Prepared::Digits),
         Command::Stat => stat::measure(alloc, &text, order.values.from).map(Prepared::Stat),
         Command::Run => run::run(alloc, &text, order.values.from, &order.bits).map(Prepared::Lines),
