@@ -39,6 +39,11 @@ def plan_of(words: List[str]) -> Optional[str]:
     return order.values.get("plan") if order is not None else None
 
 
+def is_beside_lean(words: List[str]) -> bool:
+    """Whether the circuit that words order is compared with the lean one."""
+    return words[:1] == ["compile"] and plan_of(words) in ("compact", "shallow") and not order_of(words).values["outputs"]
+
+
 class Comparison:
     """A built program, the commands that it knows, and how many of its answers so far were not those of the models,
     were of a text that is too wide for them, and were others that are allowed."""
@@ -112,7 +117,7 @@ class Comparison:
             self.differs(case, title, repr(case.text[:300]), answer, "the model: %s" % (model,))
         elif not is_sound(case.words, case.text, answer):
             self.differs(case, title + ", by its meaning", repr(case.text[:300]), answer)
-        elif plan_of(case.words) in ("compact", "shallow") and case.words[0] == "compile":
+        elif is_beside_lean(case.words):
             self.try_beside_lean(case, answer, title)
         return name_of(answer)
 

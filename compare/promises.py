@@ -5,12 +5,11 @@ from typing import Dict, Iterator, List
 
 from models import qasm, real
 from models.adders import bits_of
-from models.circuits import is_clean
+from models.circuits import is_clean, is_in_place
 from models.claims import variable_order
 from models.commands import READERS as CIRCUITS
-from models.commands import Answer, Unmodelled, answer_of, budget_of, circuit_of, flips_of, most_split, parts_of
-from models.commands import run_on_zeros
-from models.commands import places_of, split_of
+from models.commands import Answer, Unmodelled, answer_of, assumed_of, budget_of, circuit_of, flips_of, most_split
+from models.commands import parts_of, places_of, run_on_zeros, split_of
 from models.language import Program, Run, program_of
 from models.plans import LEAN_PLANS, THRIFTY_PLANS, Budget, Numbers
 from models.templates import inputs_of, wanted
@@ -45,6 +44,8 @@ def is_sound(words: List[str], text: bytes, answer: Answer) -> bool:
         return answer_of(["eval", bits], text) == answer
     if order.command == "check":
         return True
+    if order.values["outputs"]:
+        return answer.status != 0 or is_placed(order, program_of(text), answer.out)
     if answer.status in (6, 7):
         return may_refuse(order, run_on_zeros(text), answer)
     return answer.status != 0 or is_fitting(order, program_of(text), answer.out) and has_few(order, text, answer.out)
@@ -54,6 +55,13 @@ def is_fitting(order: Order, program: Program, file: bytes) -> bool:
     budget, circuit = budget_of(order), READERS[order.values["format"]](file)
     fits = len(circuit.names) <= budget.lines and len(circuit.gates) <= budget.gates
     return fits and is_clean(circuit, program, budget.borrow, words_of, order.values["plan"] != "compact")
+
+
+def is_placed(order: Order, program: Program, file: bytes) -> bool:
+    """Whether a file is within its budgets, and has the outputs in place on all words, or some, that are looked at."""
+    budget, circuit = budget_of(order), READERS[order.values["format"]](file)
+    fits = len(circuit.names) <= budget.lines and len(circuit.gates) <= budget.gates
+    return fits and is_in_place(circuit, program, budget.borrow, assumed_of(order), words_of)
 
 
 def is_arithmetic(order: Order, file: bytes) -> bool:
@@ -132,7 +140,7 @@ def is_refused(words: List[str], text: bytes) -> bool:
 def is_verdict(order: Order, source: bytes, answer: Answer) -> bool:
     """Whether a circuit that is verified does what its program says on all words, or some; and one that differs does so
     on the printed word, at the printed line and at none before it, and on no word, of these, before it or at a line
-    before."""
+    before. Words on which an assumed claim fails are not looked at."""
     run, circuit = parts_of(order, source)
     places, inputs = places_of(order), len(run.bits)
     lines = places.output_lines(inputs, len(run.outputs))
@@ -143,8 +151,10 @@ def is_verdict(order: Order, source: bytes, answer: Answer) -> bool:
 
     def first_differing(word: List[int]) -> int:
         """The first line, counted from 1, that differs on a word, or one more than there are."""
-        before = word[inputs : inputs + held] or [0] * lines
-        outputs = [bit for bit, _ in Run(run.program, word[:inputs]).outputs]
+        before, here = word[inputs : inputs + held] or [0] * lines, Run(run.program, word[:inputs])
+        if not all(claim.holds for claim in here.claims[: assumed_of(order)]):
+            return len(circuit.names) + 1
+        outputs = [bit for bit, _ in here.outputs]
         behind = [0] * work + word[inputs + held :]
         wanted = places.ports(word[:inputs], before, outputs) + behind
         pairs = zip(circuit.run(word[:inputs] + before + behind), wanted)

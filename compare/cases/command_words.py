@@ -3,7 +3,7 @@ from random import Random
 from typing import List
 
 NAMES = ["nodes", "from", "node", "nodes1", "to", "lines", "gates", "format", "plan", "plans", "borrow", "help", "",
-         "Nodes", "by", "write", "outputs", "output", "for", "fo"]
+         "Nodes", "by", "write", "outputs", "output", "for", "fo", "assume", "assumed"]
 NUMBERS = ["1", "2", "3", "4", "5", "0", "100000", "1000000", "1000001", "9999999", "0000001", "0000005", "00000005",
            "+5", "-5", "5 ", "0x5", "", "real", "5=5", "\u0665", "1e3", "--", "-"]
 FORMATS = ["real", "qasm", "real", "Real", "real ", "", "5", "=real", "--", "-"]
@@ -16,13 +16,15 @@ VALUES = {  # of each option, the first three of which are taken
     "lines": ["4", "5", "16384", "16385", "0016384"] + NUMBERS,
     "gates": ["3", "4", "4000000", "4000001", "04000000"] + NUMBERS,
     "borrow": ["0", "1", "64", "65", "0000064"] + NUMBERS,
+    "assume": ["0", "1", "4096", "4097", "0004096"] + NUMBERS,
     "outputs": ["zero", "any", "inputs", "Inputs", "input", "Any", "any ", "all", "0", "", "=any", "zeros", "--", "-"],
     "by": ["3", "10", "9999", "10000", "0009999"] + NUMBERS,
     "write": ["program", "real", "qasm", "Program", "program "] + FORMATS,
     "for": ["gates", "depth", "order", "Depth", "order ", "", "=depth", "gate", "toffoli", "--", "-"],
 }
-OPTIONS = {"compile": ["nodes", "plan", "plan", "lines", "gates", "borrow", "format"], "check": ["nodes"],
-           "convert": ["from", "to"], "tidy": ["from", "to", "for"], "verify": ["from", "nodes", "borrow", "outputs"],
+OPTIONS = {"compile": ["nodes", "plan", "plan", "lines", "gates", "borrow", "format", "assume", "outputs"],
+           "check": ["nodes", "assume"], "convert": ["from", "to"], "tidy": ["from", "to", "for"],
+           "verify": ["from", "nodes", "borrow", "outputs", "assume"],
            "arith": ["by", "write"],
            "bench": ["nodes", "plan", "plan", "lines", "gates", "borrow"]}
 SIZES = ["1", "2", "3", "02", "0000002", "200", "201", "0", "-1", "+1", "00000002", "", "x", "2.0", "--", "-"]

@@ -12,11 +12,46 @@ from cases.rows import FILE, FIVE
 from models import qasm
 from models.adders import adder_text
 from models.claims import TooWide
-from models.commands import READERS, Fault, answer_of, run_of, sizes_of, verdict_of
+from models.commands import READERS, Fault, answer_of, run_of, sizes_of, verdicts_of
 from models.language import Refused as RefusedProgram
 from models.real import Refused as RefusedCircuit
 from models.templates import KINDS
 from models.words import order_of
+
+
+ASSUMED = ["1", "1", "1", "2", "2", "3", "5", "4096"]  # claims that are taken for granted
+GRANTED = ["x.[%d]", "true <> x.[%d]", "true <> (x.[%d] && x.[%d])", "x.[%d] <> x.[%d]", "x.[%d] <> x.[%d] <> true"]
+
+
+def some_granted(random: Random) -> List[str]:
+    """Now and then words for some claims that are taken for granted."""
+    return ["--assume", random.choice(ASSUMED)] if random.random() < 0.3 else []
+
+
+class Reversible(NamedTuple):
+    """A program that says what each flip does, of its target and its controls, on so many lines, the first of which hold
+    the inputs; and words for the claims, on inputs, that it begins with."""
+
+    text: bytes
+    lines: int
+    flips: List[List[int]]
+    granted: List[str]
+
+
+def reversible(random: Random) -> Reversible:
+    inputs = random.randint(1, 4)
+    lines = inputs + random.choice([0, 0, 1, 2])
+    names, items = ["x.[%d]" % number for number in range(inputs)] + ["false"] * (lines - inputs), []
+    for form in random.sample(GRANTED, random.choice([0, 0, 0, 1, 1, 2])):
+        items.append("assert (%s);" % (form % tuple(random.randrange(inputs) for _ in range(form.count("%")))))
+    granted = ["--assume", str(len(items))] if items else []
+    flips = [random.sample(range(lines), min(lines, random.choice([1, 2, 3, 3]))) for _ in range(random.randint(1, 8))]
+    for number, (target, *controls) in enumerate(flips):
+        product = " && ".join(names[line] for line in controls) or "true"
+        items.append("let g%d = %s <> (%s);" % (number, names[target], product))
+        names[target] = "g%d" % number
+    text = "main (x : bool[%d]) = { %s }\n" % (inputs, " ".join(items + ["reg [%s]" % "; ".join(names)]))
+    return Reversible(text.encode(), lines, flips, granted)
 
 
 class Case(NamedTuple):
@@ -38,8 +73,10 @@ class OnPrograms:
         return Case([self.name] + self.rest(text, inputs), text)
 
     def rest(self, text: bytes, inputs: int) -> List[str]:
-        """The words behind the command's name: a limit near to what the claims need."""
-        return self.programs.nodes(sizes_of(text))
+        """The words behind the command's name: now and then some claims that are taken for granted, and a limit near to
+        what the claims need."""
+        granted = some_granted(self.programs.random)
+        return granted + self.programs.nodes(sizes_of(text, int("".join(granted[1:]) or 0)))
 
 
 class Compile(OnPrograms):
@@ -84,6 +121,25 @@ class Shallow(Lean):
     """`compile --plan shallow`."""
 
     name = "shallow"
+
+
+class InPlace:
+    """`compile --outputs inputs`, on programs for which there is such a circuit, and on others."""
+
+    name = "in_place"
+
+    def __init__(self, seed: int):
+        self.compile = Compile(seed)
+        self.random = self.compile.programs.random
+
+    def case(self) -> Case:
+        placed = ["--outputs", "inputs"]
+        if self.random.random() < 0.3:
+            words, text = self.compile.case()
+            return Case(words + placed, text)
+        made = reversible(self.random)
+        borrow, form = self.random.choice(["0", "0", "1", "3"]), self.random.choice(["real", "qasm"])
+        return Case(["compile", "--borrow", borrow, "--format", form] + placed + made.granted, made.text)
 
 
 class Check(OnPrograms):
@@ -202,34 +258,28 @@ class Verify:
         text, inputs = self.programs.case(self.kinds)
         while inputs > self.most_inputs:
             text, inputs = self.programs.case(self.kinds)
-        source = text + self.random.choice(self.marks) + self.file(text, borrow, is_real)
+        granted = some_granted(self.random)
+        source = text + self.random.choice(self.marks) + self.file(text, borrow, is_real, granted)
         if self.random.random() < 0.03:
             source = source[: self.random.randint(0, len(source))]
-        words = self.words(borrow, is_real)
+        words = self.words(borrow, is_real) + granted
         return Case(words + self.nodes(words, source), source)
 
     def in_place(self, borrow: int, is_real: bool) -> Case:
         """A program that says what each flip of a circuit does, and that circuit, some of whose lines begin at 0."""
-        inputs, more = self.random.randint(1, 4), self.random.choice([0, 0, 1, 2])
-        names, lets = ["x.[%d]" % number for number in range(inputs)] + ["false"] * more, ""
-        drawn = [self.random.sample(range(inputs + more), min(inputs + more, self.random.choice([1, 2, 3, 3])))
-                 for _ in range(self.random.randint(1, 8))]
-        for number, (target, *controls) in enumerate(drawn):
-            product = " && ".join(names[line] for line in controls) or "true"
-            lets += "let g%d = %s <> (%s); " % (number, names[target], product)
-            names[target] = "g%d" % number
-        text = "main (x : bool[%d]) = { %sreg [%s] }\n---\n" % (inputs, lets, "; ".join(names))
-        lines = Lines(inputs + more + borrow, borrow, [flip(controls, target) for target, *controls in drawn])
+        made = reversible(self.random)
+        lines = Lines(made.lines + borrow, borrow, [flip(controls, target) for target, *controls in made.flips])
         edited = lines if self.random.random() < 0.3 else self.circuits.edited(lines, is_real)
-        source = text.encode() + self.circuits.file(edited, is_real)
-        words = self.words(borrow, is_real, ["inputs"] * 9 + ["any"])
+        source = made.text + b"---\n" + self.circuits.file(edited, is_real)
+        words = self.words(borrow, is_real, ["inputs"] * 9 + ["any"]) + made.granted
         return Case(words + self.nodes(words, source), source)
 
-    def file(self, text: bytes, borrow: int, is_real: bool) -> bytes:
+    def file(self, text: bytes, borrow: int, is_real: bool, granted: List[str]) -> bytes:
         """A circuit that was made of a program, where it compiles, and else any file."""
         form = "real" if is_real else "qasm"
         plan = self.random.choice(["auto", "eager", "pebble", "pebble"])
-        compiled = answer_of(["compile", "--format", form, "--plan", plan, "--borrow", str(borrow)], text)
+        words = ["compile", "--format", form, "--plan", plan, "--borrow", str(borrow)]
+        compiled = answer_of(words + granted, text)
         if compiled.status != 0 or self.random.random() < 0.02:
             files = self.circuits.real_files if is_real else self.circuits.qasm_files
             return files.file().text
@@ -259,7 +309,7 @@ class Verify:
         if self.random.random() < 0.6:
             return []
         try:
-            verdict = verdict_of(order_of(words), source)
+            verdict = verdicts_of(order_of(words), source).looked
         except (Fault, RefusedProgram, RefusedCircuit, TooWide):
             return []
         return self.programs.nodes([verdict.least, verdict.most])
@@ -315,4 +365,4 @@ class Words:
         return Case(words, texts.get("".join(words[:1]), FIVE).encode())
 
 
-COMPARED = [Compile, Lean, Compact, Shallow, Check, Eval, Loops, Stat, Run, Convert, Tidy, Verify, Bench, Arith, Words]
+COMPARED = [Compile, Lean, Compact, Shallow, InPlace, Check, Eval, Loops, Stat, Run, Convert, Tidy, Verify, Bench, Arith, Words]

@@ -610,6 +610,71 @@ VERIFIED = [
     ("verify --outputs inputs --nodes 4", ONE_OF_TWO, "revc: circuit passes 4 nodes"),
 ]
 
+# ---- Claims that are taken for granted
+
+UNDER_A = BITS + "{ assert a; clean (b && (true <> a)); a && b }"  # the second claim holds where the first does
+NEVER = BITS + "{ assert a; clean (a && true); b }"
+BOTH_BITS = BITS + "{ assert a; assert b; clean (true <> a && b); b }"
+ASSERTED = BITS + "{ assert a; a && b }\n---\n"
+ONE_HOT = "main (x : bool[2]) = { assert (x.[0] <> x.[1]); reg [x.[1]; x.[0]] }\n---\n"  # two negations are a swap there
+COPY = on_lines("a b y", "t2 b y")
+
+ASSUMED = [
+    ("check", UNDER_A, "revc: claim 1 at 1:32 fails on 00"),
+    ("check --assume 0", UNDER_A, "revc: claim 1 at 1:32 fails on 00"),
+    ("check --assume 1", UNDER_A, "claims 2"),
+    ("check --assume 2", UNDER_A, "claims 2"),
+    ("check --assume=4096", UNDER_A, "claims 2"),
+    ("check --assume 4096", BIT + "a", "claims 0"),
+    # The first input at all on which the second fails is 01
+    ("check --assume 1", BITS + "{ assert a; clean b; a }", "revc: claim 2 at 1:42 fails on 11"),
+    ("check --assume 1", NEVER, "revc: claim 2 at 1:42 fails on 10"),
+    ("check --assume 2", NEVER, "revc: no input meets the assumptions"),
+    ("check --assume 1", BITS + "{ assert false; a }", "revc: no input meets the assumptions"),
+    ("check --assume 1", BITS + "{ assert true; clean b; a }", "revc: claim 2 at 1:45 fails on 01"),
+    ("check --assume 2", BOTH_BITS, "claims 3"),
+    ("check --assume 1", BOTH_BITS, "revc: claim 2 at 1:42 fails on 10"),
+    # The functions a, b and a && b, of the claims that are assumed; and with the third !(a && b) and !b
+    ("check --assume 2 --nodes 2", BOTH_BITS, "revc: claim 2 at 1:42 passes 2 nodes"),
+    ("check --assume 2 --nodes 3", BOTH_BITS, "revc: claim 3 at 1:52 passes 3 nodes"),
+    ("check --assume 2 --nodes 5", BOTH_BITS, "claims 3"),
+    # a alone of the first, and with the second !a, b and b && !a
+    ("check --assume 1 --nodes 3", UNDER_A, "revc: claim 2 at 1:42 passes 3 nodes"),
+    ("check --assume 1 --nodes 4", UNDER_A, "claims 2"),
+    ("compile", UNDER_A, "revc: claim 1 at 1:32 fails on 00"),
+    ("compile --assume 1", UNDER_A, AND),
+    ("compile --assume 2", NEVER, "revc: no input meets the assumptions"),
+    ("compile --assume 2 --lines 1", NEVER, "revc: no input meets the assumptions"),
+    ("eval 01", UNDER_A, "revc: claim 1 at 1:32 fails on 01"),
+    # The output is b where a holds
+    ("verify --assume 1", ASSERTED + COPY, "verified"),
+    ("verify --assume 1 --by both", ASSERTED + COPY, "verified"),
+    ("verify --assume 1 --by sums", ASSERTED + COPY, "revc: circuit is not settled by sums"),
+    ("verify --assume 1 --by sums", ASSERTED + on_lines("a b y", "t3 a b y"), "verified"),
+    ("verify", ASSERTED + COPY, "revc: claim 1 at 1:32 fails on 00"),
+    ("verify --assume 1 --outputs any", ASSERTED + COPY, "verified"),
+    # Three functions: a, b and a && b, which is b where a holds
+    ("verify --assume 1 --nodes 3", ASSERTED + COPY, "verified"),
+    ("verify --assume 1 --nodes 2", ASSERTED + COPY, "revc: circuit passes 2 nodes"),
+    # It differs on 00 too, which is not looked at
+    ("verify --assume 1", ASSERTED + on_lines("a b y", "t1 y"), "revc: circuit differs at line 3 on 10"),
+    ("verify --assume 1", ASSERTED + on_lines("a b y", "t2 a y"), "revc: circuit differs at line 3 on 10"),
+    ("verify --assume 1", ASSERTED + on_lines("a b y w", "t2 b y", "t1 w", "t2 a w"), "verified"),
+    ("verify --assume 1", ASSERTED + on_lines("a b y w", "t2 b y", "t3 a b w"), "revc: circuit differs at line 4 on 11"),
+    ("verify --assume 1 --borrow 1", ASSERTED + on_lines("a b y l", "t2 b y", "t2 l y"),
+     "revc: circuit differs at line 3 on 101"),
+    ("verify --assume 2", NEVER + "\n---\n" + TWO_LINES, "revc: no input meets the assumptions"),
+    ("verify --assume 2 --by sums", NEVER + "\n---\n" + COPY, "revc: no input meets the assumptions"),
+    ("verify --assume 2", NEVER + "\n---\n", "revc: circuit line 1"),
+    ("verify --assume 1 --outputs inputs", ONE_HOT + on_lines("a b", "t1 a", "t1 b"), "verified"),
+    ("verify --outputs inputs", ONE_HOT + on_lines("a b", "t1 a", "t1 b"), "revc: claim 1 at 1:24 fails on 00"),
+    ("verify --assume 1 --outputs inputs", ONE_HOT + on_lines("a b", "t1 a"), "revc: circuit differs at line 2 on 01"),
+    ("compile --outputs inputs", BITS + "a && b", "revc: 2 inputs have only 1 outputs"),
+    ("compile --outputs inputs", BITS + UNCLEANED, "revc: claim 1 at 1:48 fails on 11"),
+    ("compile --outputs inputs --assume 2", BITS + "{ assert a; clean (a && true); reg [b; a] }",
+     "revc: no input meets the assumptions"),
+]
+
 # ---- Adders
 
 ADDERS = [
@@ -727,6 +792,18 @@ WORDS = [(words, BITS + "a && b", worked) for words, worked in [
     ("verify --outputs one", BAD),
     ("verify --outputs any --outputs any", BAD),
     ("compile --outputs any", BAD),
+    ("compile --outputs zero", BAD),
+    ("compile --outputs=", BAD),
+    ("compile --assume 4096", AND),
+    ("compile --assume 4097", BAD),
+    ("compile --assume=0", AND),
+    ("compile --assume -1", BAD),
+    ("compile --assume 1 --assume 1", BAD),
+    ("check --assume", BAD),
+    ("check --outputs inputs", BAD),
+    ("verify --assume x", BAD),
+    ("eval --assume 1 11", BAD),
+    ("bench --assume 1 1", BAD),
     ("tidy x", BAD),
     ("tidy --nodes 5", BAD),
     ("tidy --for", BAD),
@@ -742,7 +819,7 @@ WORDS = [(words, BITS + "a && b", worked) for words, worked in [
 
 COMPILE = [("compile", text, worked) for text, worked in COMPILED]
 WORKED = COMPILE + PLANNED + LEANED + SHALLOWED + CHECKED + EVALUATED + LOOPED + COMPUTED + FILES + OTHERS + TIDIED
-WORKED += VERIFIED + ADDERS + ARITH + WORDS
+WORKED += VERIFIED + ASSUMED + ADDERS + ARITH + WORDS
 
 
 def shown(answer: Answer) -> str:

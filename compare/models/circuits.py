@@ -90,6 +90,26 @@ def is_clean(circuit: Circuit, program: Program, borrow: int, words_of: WordsOf,
     return all(adds_outputs(circuit, roles, program, word[: roles.inputs] + zeros + word[roles.inputs :]) for word in words)
 
 
+def is_in_place(circuit: Circuit, program: Program, borrow: int, assumed: int, words_of: WordsOf) -> bool:
+    """Whether the circuit has the program's outputs in place, with so many borrowed lines: for each word of bits, those of
+    the inputs, on which so many of the first claims hold, and of the borrowed lines, the first outputs come on the lines
+    of the inputs and the further ones on lines that hold 0, and the other lines stay as they are."""
+    roles = roles_of(circuit.names)
+    if not has_form(circuit, roles) or (roles.inputs, roles.borrowed) != (program.inputs, borrow):
+        return False
+    words = map(list, words_of(roles.inputs + roles.borrowed))
+    return all(replaces_inputs(circuit, roles, program, word, assumed) for word in words)
+
+
+def replaces_inputs(circuit: Circuit, roles: Roles, program: Program, word: List[int], assumed: int) -> bool:
+    inputs, behind = word[: roles.inputs], [0] * roles.work + word[roles.inputs :]
+    run = Run(program, inputs)
+    if not all(claim.holds for claim in run.claims[:assumed]):
+        return True
+    outputs = [bit for bit, _ in run.outputs]
+    return circuit.run(inputs + [0] * roles.outputs + behind) == outputs + behind
+
+
 def adds_outputs(circuit: Circuit, roles: Roles, program: Program, word: List[int]) -> bool:
     inputs, work = word[: roles.inputs], [0] * roles.work
     held, borrowed = word[roles.inputs : roles.inputs + roles.outputs], word[roles.inputs + roles.outputs :]

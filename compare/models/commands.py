@@ -3,6 +3,7 @@ from typing import Callable, List, NamedTuple, Optional, Tuple
 
 from models import circuits, language, qasm, real
 from models.adders import adder_text
+from models.assumptions import assuming, premise
 from models.claims import TooWide, settled
 from models.graphs import Graph
 from models.language import Run, program_of
@@ -43,12 +44,24 @@ def run_on_zeros(text: bytes) -> Run:
     return Run(program, [0] * program.inputs)
 
 
+def assumed_of(order: Order) -> int:
+    """How many claims are taken for granted."""
+    return order.values.get("assume", 0)
+
+
 def settled_run(order: Order, run: Run) -> Run:
-    """A run whose claims hold on all inputs."""
-    for number, (claim, (size, broken)) in enumerate(zip(run.claims, settled(run)), 1):
+    """A run whose claims hold on all inputs that meet those that are taken for granted, of which there are some."""
+    limit, number = order.values["nodes"], min(assumed_of(order), len(run.claims))
+    if number:
+        ((size, least_met),) = settled(premise(run, number))
+        if size > limit:
+            raise Fault(5, "claim %d at %d:%d passes %d nodes" % (number, *run.claims[number - 1].place, limit))
+        if least_met is None:
+            raise Fault(20, "no input meets the assumptions")
+    for number, (claim, (size, broken)) in enumerate(zip(run.claims, settled(assuming(run, number))), 1):
         named = "claim %d at %d:%d" % (number, *claim.place)
-        if size > order.values["nodes"]:
-            raise Fault(5, "%s passes %d nodes" % (named, order.values["nodes"]))
+        if size > limit:
+            raise Fault(5, "%s passes %d nodes" % (named, limit))
         if broken is not None:
             raise Fault(4, "%s fails on %s" % (named, broken))
     return run
@@ -62,11 +75,12 @@ def run_of(text: bytes) -> Optional[Run]:
         return None
 
 
-def sizes_of(text: bytes) -> List[int]:
+def sizes_of(text: bytes, assumed: int = 0) -> List[int]:
     """How many functions the claims up to each one rest on, where the text is well formed."""
     run = run_of(text)
     try:
-        return [size for size, _ in settled(run)] if run else []
+        runs = [premise(run, assumed)] * (assumed > 0) + [assuming(run, assumed)] if run else []
+        return [size for each in runs for size, _ in settled(each)]
     except TooWide:
         return []
 
@@ -88,6 +102,9 @@ class Unmodelled(Exception):
 def planned(order: Order, text: bytes) -> Tuple[Run, Plan]:
     """The run of a text's program, whose claims hold on all inputs, and the plan of its circuit."""
     run, budget, plan = settled_run(order, run_on_zeros(text)), budget_of(order), order.values["plan"]
+    if order.values.get("outputs"):
+        check_outputs(run)
+        raise Unmodelled()
     if plan in LEAN_PLANS:
         raise Unmodelled()
     settled = Settled(len(run.bits), Graph(run))
@@ -187,25 +204,38 @@ def parts_of(order: Order, source: bytes) -> Tuple[Run, real.Circuit]:
     return run_on_zeros(program), circuit_of(order, file)
 
 
+def check_outputs(run: Run) -> None:
+    """In place each input has an output that takes its place."""
+    if len(run.outputs) < len(run.bits):
+        raise Fault(18, "%d inputs have only %d outputs" % (len(run.bits), len(run.outputs)))
+
+
 def places_of(order: Order) -> Places:
     """Where an order has the circuit put the outputs."""
     return Places(order.values["outputs"], order.values["borrow"])
 
 
-def verdict_of(order: Order, source: bytes) -> Verdict:
-    """The verdict on a source's circuit, which has the lines and gates that it may have."""
+class Verdicts(NamedTuple):
+    """Those on the inputs that are looked at, and on all inputs, as sums see them."""
+
+    looked: Verdict
+    everywhere: Verdict
+
+
+def verdicts_of(order: Order, source: bytes) -> Verdicts:
+    """The verdicts on a source's circuit, which has the lines and gates that it may have."""
     run, circuit = parts_of(order, source)
     settled_run(order, run)
     count, wide = len(circuit.names), first_wide(circuit)
     inputs, outputs, places = len(run.bits), len(run.outputs), places_of(order)
-    if places.is_in_place and outputs < inputs:
-        raise Fault(18, "%d inputs have only %d outputs" % (inputs, outputs))
+    if places.is_in_place:
+        check_outputs(run)
     need = inputs + places.output_lines(inputs, outputs) + places.borrow
     if count < need:
         raise Fault(13, "circuit has %d lines, needs %d" % (count, need))
     if wide is not None:
         raise Fault(14, "gate %d is not X, CX or CCX" % wide)
-    return verdict_on(run, circuit, places)
+    return Verdicts(*(verdict_on(run, circuit, places, assumed) for assumed in (assumed_of(order), 0)))
 
 
 def said(line: Optional[int], bits: str) -> bytes:
@@ -220,10 +250,10 @@ UNSETTLED = "circuit is not settled by sums"
 
 def verify_text(order: Order, source: bytes) -> bytes:
     """What is written by diagrams; of a circuit that sums may settle, that they do."""
-    verdict, limit, way = verdict_of(order, source), order.values["nodes"], order.values["by"]
-    if way == "sums" and verdict.line is not None:
+    (verdict, everywhere), limit, way = verdicts_of(order, source), order.values["nodes"], order.values["by"]
+    if way == "sums" and everywhere.line is not None:
         raise Fault(17, UNSETTLED)
-    if way == "diagrams" and verdict.least > limit or way == "both" and verdict.line is not None and verdict.least > limit:
+    if verdict.least > limit and (way == "diagrams" or way == "both" and everywhere.line is not None):
         raise Fault(5, "circuit passes %d nodes" % limit)
     return said(verdict.line, verdict.bits)
 
@@ -286,7 +316,7 @@ def is_free(words: List[str], source: bytes, answer: Answer) -> bool:
     passed, verdicts = Fault(5, "circuit passes %d nodes" % order.values["nodes"]).answer, []
 
     def unlimited() -> bytes:
-        verdicts.append(verdict_of(order, source))
+        verdicts.append(verdicts_of(order, source).looked)
         return said(verdicts[0].line, verdicts[0].bits)
 
     other = answered(unlimited)

@@ -8,6 +8,7 @@ begin at 0 or hold any bits, and the work lines, which begin at 0, and the last 
 from functools import partial
 from typing import Callable, Dict, Iterable, List, NamedTuple, Optional, Set, Tuple
 
+from models.assumptions import premise
 from models.claims import Tables, value_of, variable_order
 from models.graphs import Graph
 from models.language import MOST_BYTES as MOST_PROGRAM
@@ -143,18 +144,27 @@ class Contents:
             self.contents[target] ^= flips
             self.seen.add(self.contents[target])
 
-    def difference(self) -> Tuple[Optional[int], str]:
-        """The first line that differs, counted from 1, and the least bits on which it does, where one differs."""
+    def difference(self, looked: Optional[int] = None) -> Tuple[Optional[int], str]:
+        """The first line that differs, counted from 1, and the least bits on which it does, where one differs on an
+        input that is looked at."""
         for number, (content, right) in enumerate(zip(self.contents, self.wanted), 1):
-            if content != right:
-                bits = self.functions.least(content ^ right)
+            apart = content ^ right if looked is None else (content ^ right) & looked
+            if apart != self.functions.false:
+                bits = self.functions.least(apart)
                 return number, "".join(str(bits[name]) for name in self.names)
         return None, ""
 
 
-def verdict_on(run: Run, circuit: Circuit, places: Places) -> Verdict:
-    """The verdict on a circuit of narrow gates, which has as many lines as the run wants, or more."""
+def verdict_on(run: Run, circuit: Circuit, places: Places, assumed: int = 0) -> Verdict:
+    """The verdict on a circuit of narrow gates, which has as many lines as the run wants, or more, on the inputs on which
+    so many of the first claims hold."""
     on = Contents(run, circuit, places, partial(Tables, most=MOST_VARIABLES))
-    nodes = nodes_of(Graph(run), on.functions, on.variables)
-    most, least = (count_of(on.seen.union(each.values()), len(on.names)) for each in (on.writes, nodes))
-    return Verdict(most, least, *on.difference())
+    met, steps = premise(run, assumed), dict(on.variables)
+    for number, write in enumerate(met.writes):
+        steps["w%d" % number] = value_of(write, on.functions, steps)
+    looked = steps[met.outputs[0][1]]
+    ends = {line & looked for line in on.contents + on.wanted}
+    nodes = [*nodes_of(Graph(run), on.functions, on.variables).values(),
+             *nodes_of(Graph(met), on.functions, on.variables).values()]
+    most, least = (count_of({*on.seen, *ends, *each}, len(on.names)) for each in (steps.values(), nodes))
+    return Verdict(most, least, *on.difference(looked))

@@ -38,6 +38,8 @@ def choice(default: str, *words: str) -> Option:
 
 
 NODES = {"nodes": number(100_000, 1, 1_000_000)}
+ASSUMED = {"assume": number(0, 0, 4_096)}
+PLACED = {"outputs": Option("", lambda word: word if word == "inputs" else None)}  # else its plan tells their place
 PLANNED = {
     "format": choice("real", "qasm"),
     "plan": choice("auto", "compact", "eager", "lean", "pebble", "shallow"),
@@ -56,14 +58,14 @@ ARITH = {"by": number(0, 1, 9_999), "write": choice("program", "real", "qasm")}
 
 # Of each command its options, and the least and most positional words
 COMMANDS = {
-    "compile": ({**NODES, **PLANNED}, 0, 0),
-    "check": (NODES, 0, 0),
+    "compile": ({**NODES, **ASSUMED, **PLANNED, **PLACED}, 0, 0),
+    "check": ({**NODES, **ASSUMED}, 0, 0),
     "eval": ({}, 1, 1),
     "stat": (FROM, 0, 0),
     "run": (FROM, 1, None),
     "convert": ({**FROM, **TO}, 0, 0),
     "gen": ({}, 1, 1),
-    "verify": ({**FROM, **NODES, **VERIFIED, "borrow": PLANNED["borrow"]}, 0, 0),
+    "verify": ({**FROM, **NODES, **ASSUMED, **VERIFIED, "borrow": PLANNED["borrow"]}, 0, 0),
     "tidy": ({**FROM, **TO, **AIMED}, 0, 0),
     "arith": (ARITH, 2, 2),
     "bench": ({**NODES, **{name: PLANNED[name] for name in PLANNED if name != "format"}}, 1, 1),

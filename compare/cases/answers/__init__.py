@@ -9,7 +9,7 @@ ANSWERS: List[Row] = [
     *adders.CASES,
     *arith.CASES, *arith.SMALL,
     *circuits.CASES, *circuits.COMPILED, *circuits.RUN_ON_MANY,
-    *claims.CASES, *claims.FURTHER_CASES, *claims.LIMIT_CASES,
+    *claims.CASES, *claims.ASSUMED, *claims.FURTHER_CASES, *claims.LIMIT_CASES,
     *compiled.COMPILED, *compiled.REFUSED, *compiled.COMPILED_LONG,
     *converted.CASES, *converted.SIZES,
     *evaluated.WORDS, *evaluated.CLAIMS, *evaluated.ALIASES, *evaluated.FUNCTIONS, *evaluated.NEARER,
@@ -20,6 +20,6 @@ ANSWERS: List[Row] = [
     *refused.REFUSED,
     *tidied.CASES,
     *tokens.TOKENS,
-    *verified.SOURCES, *verified.ANY, *verified.BY,
+    *verified.SOURCES, *verified.ANY, *verified.BY, *verified.ASSUMED,
     *words.NO_ORDERS,
 ]

@@ -21,6 +21,17 @@ CASES: List[Row] = [
      "claims 1\n"),
 ]
 
+# The first claims taken for granted: on the inputs that are left the others hold, or not; or none is left.
+ASSUMED: List[Row] = [
+    ("check --assume 1", "main (a : bool) (b : bool) = { assert a; clean (b && (true <> a)); b }", 0, "claims 2\n"),
+    ("check --assume 1", "main (a : bool) (b : bool) = { assert a; clean b; a }", 4,
+     "revc: claim 2 at 1:42 fails on 11\n"),
+    ("check --assume 2", "main (a : bool) (b : bool) = { assert a; clean (a && true); b }", 20,
+     "revc: no input meets the assumptions\n"),
+    ("compile --assume 4096", "main (a : bool) (b : bool) = { assert a; clean (a && true); b }", 20,
+     "revc: no input meets the assumptions\n"),
+]
+
 FURTHER_CASES: List[Row] = [
     ("check", "main (a : bool) (b : bool) = a", 0, "claims 0\n"),
     ("check --nodes 1", "main (a : bool) (b : bool) = a && b", 0, "claims 0\n"),

@@ -60,3 +60,16 @@ BY: List[Row] = [
     ("verify --by 3", "", 2, "revc: bad command line\n"),
     ("arith add 8 --by sums", "", 2, "revc: bad command line\n"),
 ]
+
+# On the inputs on which the first claim holds, the output is the second input.
+GRANTED = "main (a : bool) (b : bool) = { assert a; a && b }"
+NEVER = "main (a : bool) (b : bool) = { assert a; clean (a && true); b }"
+COPY = ".version 2.0\n.numvars 3\n.variables a b y\n.begin\nt2 b y\n.end\n"
+
+ASSUMED: List[Row] = [
+    ("verify --assume 1", GRANTED + PARTING + COPY, 0, VERIFIED),
+    ("verify --assume 1 --by sums", GRANTED + PARTING + COPY, 17, UNSETTLED),
+    ("verify --assume 1", GRANTED + PARTING + COPY.replace("t2 b y", "t1 y"), 15,
+     "revc: circuit differs at line 3 on 10\n"),
+    ("verify --assume 2", NEVER + PARTING + COPY, 20, "revc: no input meets the assumptions\n"),
+]
