@@ -13,7 +13,7 @@ from .equality import equal
 from .errors import RevcError
 from .files import circuit_text, converted, format_of, is_circuit, numbers, on_circuit, source_of, write
 from .maps import by_left, lines_from, pairs_of
-from .netlists import read_text
+from .netlists import Netlist, read_text
 from .phases import FORMS, angle_of
 from .verifying import asking, verify_text
 
@@ -21,14 +21,21 @@ from .verifying import asking, verify_text
 def compiled(options: argparse.Namespace) -> Circuit:
     source = source_of(options.program)
     return source.compile(options.plan, options.lines, options.gates, options.borrow, options.nodes, options.timeout,
-                          options.names)
+                          options.names, options.assume or None)
+
+
+def in_place(options: argparse.Namespace) -> Netlist:
+    if options.borrow or options.names:
+        raise RevcError("--inplace: the lines have the names of the parameters, and none is borrowed")
+    source = source_of(options.program).assuming(options.assume or None)
+    return source.compile_in_place(None, options.plan, options.lines, options.gates, options.nodes, options.timeout)
 
 
 def do_compile(options: argparse.Namespace) -> None:
     if options.output and options.output.endswith(".svg"):
         raise RevcError(f"{options.output}: `draw` makes pictures")
     form = format_of(options.output, options.format, "real")
-    circuit = compiled(options)
+    circuit = in_place(options) if options.inplace else compiled(options)
     write(getattr(circuit, form), options.output)
     sys.stderr.write(str(circuit.cost) + "\n")
 
@@ -48,7 +55,7 @@ def do_costs(options: argparse.Namespace) -> None:
 
 
 def do_check(options: argparse.Namespace) -> None:
-    print(f"claims {source_of(options.program).check(options.nodes, options.timeout)}")
+    print(f"claims {source_of(options.program).check(options.nodes, options.timeout, options.assume or None)}")
 
 
 def do_run(options: argparse.Namespace) -> None:
@@ -73,7 +80,12 @@ def do_stat(options: argparse.Namespace) -> None:
 
 
 def do_verify(options: argparse.Namespace) -> None:
-    source, lines = source_of(options.program), lines_from(options.map) or None
+    source = source_of(options.program).assuming(options.assume or None)
+    lines = lines_from(options.map) or None
+    if options.inplace:
+        text, borrow = circuit_text(options.circuit), options.borrow
+        print(source.verify(text, options.nodes, borrow, options.by, options.timeout, lines, inplace=True))
+        return
     asks = asking(options.nodes, options.by, options.timeout)
     print(verify_text(source, circuit_text(options.circuit), lines, options.borrow, asks, options.circuit))
 
@@ -153,6 +165,9 @@ class Parser(argparse.ArgumentParser):
     def map(self, about: str) -> None:
         self.add_argument("--map", default="", metavar="MAP", help=about)
 
+    def inplace(self) -> None:
+        self.add_argument("--inplace", action="store_true", help="the outputs end on the lines of the inputs, in order")
+
     def names(self) -> None:
         self.add_argument("--names", action="store_true", help="call lines after the parameters and results")
 
@@ -162,8 +177,9 @@ Taking = Callable[[Parser], None]
 
 
 def takes_compile(one: Parser) -> None:
-    one.options("plan", "lines", "gates", "borrow", "nodes")
+    one.options("plan", "lines", "gates", "borrow", "nodes", "assume")
     one.timeout()
+    one.inplace()
     one.names()
     one.form()
 
@@ -180,13 +196,14 @@ def takes_costs(one: Parser) -> None:
 
 
 def takes_check(one: Parser) -> None:
-    one.option("nodes")
+    one.options("nodes", "assume")
     one.timeout()
 
 
 def takes_verify(one: Parser) -> None:
-    one.options("nodes", "borrow", "by")
+    one.options("nodes", "borrow", "by", "assume")
     one.timeout()
+    one.inplace()
     one.map("which line is which bit of the program: \"q[0:4]=a, q[4]=out\"; `borrowed` are lines that hold anything")
 
 
@@ -215,7 +232,7 @@ def takes_draw(one: Parser) -> None:
 
 
 def takes_phase(one: Parser) -> None:
-    one.options("plan", "lines", "gates", "borrow", "nodes")
+    one.options("plan", "lines", "gates", "borrow", "nodes", "assume")
     one.timeout()
     one.names()
     one.add_argument("--form", choices=FORMS, help="run it once (kickback), or twice around a Z (z)")

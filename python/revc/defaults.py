@@ -41,6 +41,7 @@ DEFAULTS: Dict[str, Default] = {
     "gates": Default(GATES, 1000000, (1, GATES), "the most gates of the circuit"),
     "borrow": Default(0, 0, (0, 64), "lines that are borrowed: they may hold anything, and come back unchanged"),
     "nodes": Default(NODES, 100000, (1, NODES), "the most functions on which claims, or a circuit that is verified, rest"),
+    "assume": Default(0, 0, (0, 4096), "claims, from the first on, that are taken for granted"),
     "by": Default("both", "diagrams", WAYS, "how `verify` decides: by sums of products, by diagrams, or by both in turn"),
     "for": Default("gates", "gates", AIMS, "for what `tidy` works: few gates, and then depth, or depth by order alone"),
 }

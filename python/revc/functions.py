@@ -170,6 +170,27 @@ def clean(x: Bits) -> None:
 
 def require(x: Bits) -> None:
     """Claim that the bit x is 1 on every input. `check` and `compile` prove it, and it costs no gate."""
+    claim_bit(x, "require")
+
+
+def claim_bit(x: Bits, name: str) -> None:
     if not is_bits(x) or x.width != 1:
-        raise WidthError(f"require({said(x)}): one bit is claimed: a comparison, or .all()")
+        raise WidthError(f"{name}({said(x)}): one bit is claimed: a comparison, or .all()")
     scope().add("assert", None, [x.node], 1, "")
+
+
+def assume(x: Bits) -> None:
+    """Take for granted that the bit x is 1: inputs on which it is 0 are not looked at.
+
+    It stands before all other claims of the oracle. In an oracle that another one calls, it is what that one has to prove.
+    """
+    program = current()
+    if len(program.stack) == 1:
+        claims = [node for node in program.scope.items
+                  if node.kind in ("clean", "assert") or node.kind == "call" and node.data in program.claiming]
+        if len(claims) > program.assumed:
+            raise RevcError(f"assume({said(x)}) stands behind a claim: what is taken for granted comes first")
+        claim_bit(x, "assume")
+        program.assumed += 1
+    else:
+        claim_bit(x, "assume")

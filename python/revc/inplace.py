@@ -3,7 +3,7 @@
 The outputs are computed beside the inputs; the inverse, computed from them, clears the inputs; and the outputs move onto
 their lines. An output that is the input of its own place stays where it is.
 """
-from typing import List, Sequence, Set
+from typing import List, Sequence, Set, Tuple
 
 from .circuits import Circuit
 from .errors import RevcError, WidthError
@@ -11,6 +11,8 @@ from .gates import Gate
 from .line_names import lines_by_role
 from .maps import OUT
 from .netlists import Netlist
+from .real import GateList
+from .revs import Named
 from .transforms import flip, moved
 
 
@@ -30,8 +32,19 @@ def in_place(circuit: Circuit, inverse: Circuit) -> Netlist:
     backward = moved(without(inverse.gate_list.gates, {outputs + line for line in kept}),
                      [*stands, *range(inputs), *rest[:inverse.cost.work]])
     moves = [gate for line in moving for gate in (flip(beside[line], line), flip(line, beside[line]))]
-    names = lines_by_role(circuit.source.params, [(OUT, further)] if further else [], work, 0)
-    return Netlist(tuple(names), tuple(forward + backward + moves), "-" * inputs + "0" * (further + work))
+    gates = tuple(forward + backward + moves)
+    return Netlist(names_in_place(circuit.source.params, further, work), gates, "-" * inputs + "0" * (further + work))
+
+
+def names_in_place(params: Named, further: int, work: int) -> Tuple[str, ...]:
+    """The names of the lines: of the parameters, of the outputs beyond the number of inputs, and of work lines."""
+    return tuple(lines_by_role(params, [(OUT, further)] if further else [], work, 0))
+
+
+def netlist_in_place(params: Named, further: int, listed: GateList) -> Netlist:
+    """The circuit of a file that has its outputs in place."""
+    work = len(listed.marks) - sum(width for _, width in params) - further
+    return Netlist(names_in_place(params, further, work), tuple(listed.gates), listed.marks)
 
 
 def is_copied(gates: Sequence[Sequence[int]], line: int, target: int) -> bool:

@@ -45,6 +45,7 @@ class Oracle(Source):
         super().__init__("\n".join(line for line, _ in lines) + "\n", title,
                          [(str(each.hint), each.width) for each in params],
                          list(zip(names, [each.width for each in flat])), [place for _, place in lines])
+        self.assumed = program.assumed
 
     def __call__(self, *args: Any, **named: Any) -> Any:
         if holds_bits(list(args) + list(named.values())):

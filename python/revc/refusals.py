@@ -17,8 +17,12 @@ ANSWERS = [  # messages that have no class of their own
     (r"bad bits in word (\d+)", "word {0} is no list of as many digits 0 and 1 as there are inputs"),
     (r"circuit has (\d+) lines, needs (\d+)",
      "with a line for each input and each output it has {1} at least: is it the circuit of another program? Where an output "
-     "stands in place of an input, say which line is which, lines={{..}} (--map), or inplace=True where all do"),
+     "stands in place of an input, say which line is which, lines={{..}} (--map), or inplace=True (--inplace) where all do"),
     (r"(\d+) inputs have only (\d+) outputs", "in place each input line ends with an output: put out the rest as they came"),
+    (r"no circuit in place was found",
+     "there may be one: give the inverse, compile_in_place(inverse), of which one is made"),
+    (r"no input meets the assumptions",
+     "each input breaks one of the claims that are taken for granted, assume(..) or --assume, so that nothing is said of any"),
     (r"gate (\d+) is not X, CX or CCX", "`convert` makes X, CX and CCX gates of it; then verify that"),
     (r"(read|write) fault", "standard input or output failed: is the disk full, or was a pipe closed?"),
 ]

@@ -1,15 +1,18 @@
 """Texts of Revs with the names and widths of their parameters: what the program says of them, on numbers."""
+import copy
 import re
-from typing import Any, Dict, List, Optional, Protocol, Sequence, Tuple, Union
+from typing import Any, Dict, List, Optional, Protocol, Sequence, Tuple, TypeVar, Union
 
 from . import program, refusals
 from .defaults import DEFAULTS, NODES, WAY, WAYS
-from .errors import RevcError, WidthError
+from .errors import ClaimFails, Refused, RevcError, WidthError
 from .names import Place
 from .program import Deadline
 from .real import form_of
 
 Named = Sequence[Tuple[str, int]]  # names and widths
+Text = TypeVar("Text", bound="RevsText")
+ONE_LINE = ".version 2.0\n.numvars 1\n.variables a\n.begin\n.end\n"
 
 
 class Compiled(Protocol):
@@ -22,8 +25,10 @@ class RevsText:
     """A text of Revs. Numbers go in by the names of its parameters.
 
     `params` are the names and widths of the parameters, `out` those of the results; `places` are for each line of the
-    text the file and line of Python that wrote it, where it was written so.
+    text the file and line of Python that wrote it, where it was written so. The first `assumed` of its claims are taken for
+    granted: only inputs on which they hold are looked at.
     """
+    assumed = 0
 
     def __init__(self, text: str, name: str = "main", params: Optional[Named] = None, out: Optional[Named] = None,
                  places: Sequence[Optional[Place]] = ()):
@@ -47,8 +52,23 @@ class RevsText:
     def out(self) -> List[Tuple[str, int]]:
         """The names and widths of the results; a text alone has one, of as many bits as it puts out."""
         if self._out is None:
-            self._out = [("out", len(self.ask(["eval", "0" * self.inputs]).split()[0]))]
+            self._out = [("out", self.output_bits())]
         return self._out
+
+    def output_bits(self) -> int:
+        try:
+            return len(self.ask(["eval", "0" * self.inputs]).split()[0])
+        except ClaimFails:
+            if not self.assumed:
+                raise
+        try:  # zeros are not looked at: how many lines does a circuit of too few need?
+            self.ask(["verify", "--nodes", str(NODES), *self.granted], ONE_LINE)
+        except Refused as refusal:
+            needs = re.search(r"needs (\d+)$", refusal.message)
+            if needs:
+                return int(needs[1]) - self.inputs
+            raise
+        return 0
 
     @property
     def outputs(self) -> int:
@@ -107,6 +127,20 @@ class RevsText:
 
     # ---- Asking the program
 
+    def assuming(self: Text, assume: Optional[int]) -> Text:
+        """The same text, of whose claims the first `assume` are taken for granted; as it is where that is None."""
+        if assume is None:
+            return self
+        within(assume=assume)
+        other = copy.copy(self)
+        other.assumed = assume
+        return other
+
+    @property
+    def granted(self) -> List[str]:
+        """The words for the claims that are taken for granted."""
+        return ["--assume", str(self.assumed)] if self.assumed else []
+
     def ask(self, words: Sequence[str], circuit: str = "", deadline: Optional[Deadline] = None) -> bytes:
         """What the program writes for the text, and for a circuit behind it."""
         text = self.text + ("" if self.text.endswith("\n") else "\n") + "---\n" + circuit if circuit else self.text
@@ -118,13 +152,15 @@ class RevsText:
         numbers = dict(zip([name for name, _ in self.params], args), **named)
         return self.value(self.ask(["eval", self.word(numbers)]).decode().strip())
 
-    def check(self, nodes: int = NODES, timeout: Optional[float] = None) -> int:
+    def check(self, nodes: int = NODES, timeout: Optional[float] = None, assume: Optional[int] = None) -> int:
         """Prove all claims for all inputs; how many there are. The first that fails is raised, with its least input.
 
-        `nodes` are the most functions on which they may rest. After `timeout` seconds it is given up, by `TimedOut`.
+        `nodes` are the most functions on which they may rest. The first `assume` are taken for granted, and only inputs on
+        which they hold are looked at. After `timeout` seconds it is given up, by `TimedOut`.
         """
         within(nodes=nodes)
-        return int(self.ask(["check", "--nodes", str(nodes)], deadline=Deadline(timeout)).split()[1])
+        words = ["check", "--nodes", str(nodes), *self.assuming(assume).granted]
+        return int(self.ask(words, deadline=Deadline(timeout)).split()[1])
 
     def verify(self, circuit: Union[Compiled, str], nodes: int = NODES, borrow: int = 0, by: str = WAY,
                timeout: Optional[float] = None, inplace: bool = False) -> str:
@@ -141,6 +177,7 @@ class RevsText:
         words = ["verify", "--from", form_of(text), "--nodes", str(nodes), "--by", by]
         words += ["--borrow", str(borrow)] if borrow else []
         words += ["--outputs", "inputs"] if inplace else []
+        words += self.granted
         return self.ask(words, text, Deadline(timeout)).decode().strip()
 
 

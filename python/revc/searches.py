@@ -25,7 +25,7 @@ class Search:
         """The circuit on at most so many lines and of so many gates, or nothing."""
         self.meter.step(plan, lines)
         words = ["compile", "--plan", plan, "--lines", str(lines), "--gates", str(gates), "--nodes", str(NODES)]
-        words += ["--borrow", str(borrow)] if borrow else []
+        words += (["--borrow", str(borrow)] if borrow else []) + self.source.granted
         try:
             return Circuit(self.source, self.source.ask(words, deadline=self.deadline), words, borrow)
         except TimedOut:

@@ -7,12 +7,13 @@ from .circuits import Circuit
 from .costs import BY, Costs, best_circuit
 from .defaults import GATES, LINES, NODES, PLAN, WAY
 from .errors import CircuitDiffers, GatesExceeded, LinesExceeded, Refused, RevcError, more
-from .inplace import check_widths, in_place, not_inverse
+from .inplace import check_widths, in_place, netlist_in_place, not_inverse
 from .maps import Lines
 from .netlists import Netlist
 from .network_files import is_network, network_text
 from .program import Deadline
 from .progress import Told
+from .real import read_real
 from .revs import Compiled, RevsText, within
 from .searches import PATIENCE, gates_that_fit, lines_that_fit
 from .verifying import asking, verify_in_turn, verify_netlist, verify_text
@@ -22,15 +23,18 @@ class Source(RevsText):
     """A text of Revs that is compiled: `Source("main (a : bool) = a").compile()`."""
 
     def compile(self, plan: str = PLAN, lines: int = LINES, gates: int = GATES, borrow: int = 0, nodes: int = NODES,
-                timeout: Optional[float] = None, names: bool = False) -> Circuit:
+                timeout: Optional[float] = None, names: bool = False, assume: Optional[int] = None) -> Circuit:
         """A clean circuit of X, CX and Toffoli gates, proved to compute the function on every input.
 
         `plan` is how it is made (docs/COMMANDS.md), `lines` and `gates` are the most that it may have, `borrow` how many
-        lines it may borrow. `nodes` are the most functions on which claims may rest. After `timeout` seconds it is given
-        up, by `TimedOut`. With `names` the files call lines after the parameters and results.
+        lines it may borrow. `nodes` are the most functions on which claims may rest, the first `assume` of which are taken
+        for granted. After `timeout` seconds it is given up, by `TimedOut`. With `names` the files call lines after the
+        parameters and results.
         """
+        if assume is not None:
+            return self.assuming(assume).compile(plan, lines, gates, borrow, nodes, timeout, names)
         words = ["compile", "--plan", plan, "--lines", str(lines), "--gates", str(gates), "--nodes", str(nodes)]
-        words += ["--borrow", str(borrow)] if borrow else []
+        words += (["--borrow", str(borrow)] if borrow else []) + self.granted
         deadline = Deadline(timeout)
         try:
             return Circuit(self, self.ask(words, deadline=deadline), words, borrow, names)
@@ -46,13 +50,16 @@ class Source(RevsText):
                 within(lines=lines, gates=gates, borrow=borrow, nodes=nodes)
             raise
 
-    def compile_in_place(self, inverse: "Source", plan: str = PLAN, lines: int = LINES, gates: int = GATES, nodes: int = NODES,
-                         timeout: Optional[float] = None) -> Netlist:
+    def compile_in_place(self, inverse: Optional["Source"] = None, plan: str = PLAN, lines: int = LINES, gates: int = GATES,
+                         nodes: int = NODES, timeout: Optional[float] = None) -> Netlist:
         """A circuit that ends with the outputs on the lines of the inputs, proved to do so on every input.
 
-        `inverse` takes the outputs to the inputs again. Outputs beyond the number of inputs stand on lines of their own, the
-        register `out`. `plan`, `lines` and `gates` are those of each of both circuits, of which it is made.
+        `inverse` takes the outputs to the inputs again; without it the program looks for a circuit. Outputs beyond the number
+        of inputs stand on lines of their own, the register `out`. `plan`, `lines` and `gates` are those of each of both
+        circuits, of which it is made.
         """
+        if inverse is None:
+            return self.found_in_place(plan, lines, gates, nodes, timeout)
         check_widths(self.name, self.inputs, self.outputs, inverse.inputs, inverse.outputs)
         deadline = Deadline(timeout)
         one = self.compile(plan, lines, gates, 0, nodes, deadline.left())
@@ -64,15 +71,26 @@ class Source(RevsText):
             raise not_inverse(self.name, refusal) from None
         return circuit
 
+    def found_in_place(self, plan: str, lines: int, gates: int, nodes: int, timeout: Optional[float]) -> Netlist:
+        """The circuit of `compile --outputs inputs`."""
+        words = ["compile", "--outputs", "inputs", "--plan", plan, "--lines", str(lines), "--gates", str(gates)]
+        words += ["--nodes", str(nodes), *self.granted]
+        listed = read_real(self.ask(words, deadline=Deadline(timeout)).decode())
+        return netlist_in_place(self.params, self.outputs - self.inputs, listed)
+
     def verify(self, circuit: Union[Circuit, Netlist, Compiled, str], nodes: int = NODES, borrow: int = 0, by: str = WAY,
-               timeout: Optional[float] = None, lines: Optional[Lines] = None, inplace: bool = False) -> str:
+               timeout: Optional[float] = None, lines: Optional[Lines] = None, inplace: bool = False,
+               assume: Optional[int] = None) -> str:
         """Prove that a circuit computes this on every input: a compiled one, a `Netlist`, or the text of a file.
 
         `lines` say which lines of the circuit stand for a parameter or a result, as {"a": "q[0:4]", "out": "q[4]"}, where
         `out` is all results and `borrowed` lines that hold anything. Without it they are found by these names, or stand in
         the order of `verify`. An output may stand on the line of an input. With `inplace` all take the place of the inputs, in
-        order, and those beyond their number stand on the lines behind them.
+        order, and those beyond their number stand on the lines behind them. The first `assume` claims are taken for granted:
+        only inputs on which they hold are looked at.
         """
+        if assume is not None:
+            return self.assuming(assume).verify(circuit, nodes, borrow, by, timeout, lines, inplace)
         asks = asking(nodes, by, timeout, inplace)
         if inplace and lines is not None:
             raise RevcError("inplace=True: the lines stand in order, so there is no map of them")

@@ -116,6 +116,7 @@ class Program:
         self.functions: Set[str] = {"O", "I"}
         self.every: Set[str] = set()  # each name of a value, of any scope
         self.claiming: Set[str] = set()  # functions in which a claim stands
+        self.assumed = 0  # claims of `main`, its first, that are taken for granted
         self.top: List[Line] = []
         self.operations: Dict[str, str] = {}
         self.bodies: Dict[str, str] = {}  # from a title and a text to the name of the function

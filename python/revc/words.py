@@ -26,14 +26,14 @@ class Command(NamedTuple):
 
 BUDGETS = ("plan", "lines", "gates", "borrow", "nodes")
 COMMANDS: Dict[str, Command] = {
-    "compile": Command((), ("format", *BUDGETS)),
-    "check": Command((), ("nodes",)),
+    "compile": Command((), ("format", *BUDGETS, "assume", "outputs")),
+    "check": Command((), ("nodes", "assume")),
     "eval": Command(("BITS",), ()),
     "run": Command(("BITS..",), ("from",), "a circuit"),
     "stat": Command((), ("from",), "a circuit"),
     "convert": Command((), ("from", "to"), "a circuit"),
     "tidy": Command((), ("from", "to", "for"), "a circuit"),
-    "verify": Command((), ("from", "nodes", "borrow", "outputs", "by"), "a program, a line `---` and a circuit"),
+    "verify": Command((), ("from", "nodes", "borrow", "outputs", "by", "assume"), "a program, a line `---` and a circuit"),
     "gen": Command(("N",), (), ""),
     "bench": Command(("N",), BUDGETS, ""),
     "arith": Command(("KIND", "N"), ("by", "write"), ""),
@@ -46,12 +46,15 @@ OPTIONS: Dict[str, Default] = {
     "outputs": Default("zero", "zero", ("zero", "any", "inputs"), "where the outputs stand"),
     "write": Default("program", "program", ("program", *FORMATS), "what is written"),
 }
-OF_ARITH = {"by": Default(1, 1, (1, 9999), "the constant by which `mul` multiplies")}
+OWN = {  # what options are of one command
+    ("arith", "by"): Default(1, 1, (1, 9999), "the constant by which `mul` multiplies"),
+    ("compile", "outputs"): Default("inputs", "inputs", ("inputs",), "where the outputs stand; without it by the plan"),
+}
 SIZE = Default(1, 1, (1, 200), "how many bits the numbers have")
 
 
 def option(command: str, name: str) -> Default:
-    return OF_ARITH.get(name, OPTIONS[name]) if command == "arith" else OPTIONS[name]
+    return OWN.get((command, name), OPTIONS[name])
 
 
 def nearest(word: str, names: Iterable[str]) -> str:

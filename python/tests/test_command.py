@@ -91,7 +91,7 @@ class Command(unittest.TestCase):
     def test_refusals(self) -> None:
         self.refuses("compile alu.revs", "alu.revs: No such file or directory")
         self.refuses("compile alu.py --plan best", "no plan `best`: auto, eager, pebble, lean")
-        self.refuses("compile alu.py --plans lean", "it takes no `--plans`: --borrow, --format, --gates,")
+        self.refuses("compile alu.py --plans lean", "it takes no `--plans`: --assume, --borrow, --format, --gates,")
         self.refuses("compile alu.py -o alu.txt", "alu.txt: a circuit is written as .real, .qasm or .qasm3")
         self.refuses("compile alu.py --lines many", "argument --lines: invalid int value: 'many'")
         self.refuses("compil alu.py", "invalid choice: 'compil'")

@@ -2,7 +2,7 @@
 import unittest
 from typing import Callable, Dict, List, Tuple
 
-from revc import Cat, Oracle, RevcError, U1, U4, WidthError, lib, oracle, table, widen
+from revc import Cat, Oracle, RevcError, U1, U4, WidthError, assume, lib, oracle, table, widen
 from test_files import ran_by_gates
 
 PRESENT = [12, 5, 6, 11, 9, 0, 10, 13, 3, 14, 15, 8, 4, 7, 1, 2]
@@ -59,6 +59,21 @@ def from_carry(s: U4, c: U1, carry: U1):
     return (Cat(s, carry) - widen(c, 5))[:4], c
 
 
+def modular(is_bounded: bool) -> Oracle:
+    @oracle
+    def turned(a: U4, b: U4):
+        if is_bounded:
+            assume(a < 11)
+            assume(b < 11)
+        return a, lib.mod_add(a, b, 11)
+    return turned
+
+
+@oracle
+def turned_back(a: U4, s: U4):
+    return a, lib.mod_sub(s, a, 11)
+
+
 # A function, its inverse, what it is on numbers, and the most Toffoli gates and lines.
 PAIRS: List[Tuple[Oracle, Oracle, Callable[..., int], int, int]] = [
     (more, less, lambda x: (x + 1) % 16, 6, 9),
@@ -81,6 +96,23 @@ class InPlace(unittest.TestCase):
                 self.assertEqual(ran_by_gates(circuit, bits), wanted(**numbers), (function.name, numbers))
             self.assertLessEqual(circuit.cost.toffoli, toffoli, function.name)
             self.assertLessEqual(circuit.lines, lines, function.name)
+
+    def test_found_without_inverse(self) -> None:
+        for function, wanted in ((added, lambda x: x % 16 | (x + x // 16) % 16 << 4), (more, lambda x: (x + 1) % 16)):
+            circuit = function.compile_in_place()
+            for bits in range(1 << function.inputs):
+                self.assertEqual(ran_by_gates(circuit, bits), wanted(bits), (function.name, bits))
+            self.assertEqual(function.verify(circuit, inplace=True), "verified")
+
+    def test_on_what_is_looked_at(self) -> None:
+        """A sum modulo 11 leads back where its numbers are below 11."""
+        circuit = modular(True).compile_in_place(turned_back)
+        for a in range(11):
+            for b in range(11):
+                self.assertEqual(ran_by_gates(circuit, a | b << 4), a | (a + b) % 11 << 4)
+        self.assertEqual(modular(True).verify(circuit, inplace=True), "verified")
+        with self.assertRaisesRegex(RevcError, "`inverse` does not lead back from what `turned` puts out"):
+            modular(False).compile_in_place(turned_back)
 
     def test_no_inverse(self) -> None:
         with self.assertRaisesRegex(RevcError, "`inverse` does not lead back from what `more` puts out"):
