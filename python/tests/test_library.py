@@ -114,8 +114,10 @@ def moduli() -> Dict[str, Case]:
                 "mod_mul": Case(lambda a, b, m=m: lib.mod_mul(a, b, m), AB(n), lambda a, b, m=m: a * b % m, 0, 0, two),
                 }.items(), counts):
             found[f"{name} modulo {m}"] = case._replace(ands=cost[0], depth=cost[1])
+    halves = {f"mod_halve modulo {m}": Case(lambda a, m=m: lib.mod_halve(a, m), A(n), lambda a, m=m: a * (m + 1) // 2 % m,
+                                            ands, ands, lambda a, m=m: a < m) for n, m, ands in ((2, 3, 0), (4, 13, 3), (8, 251, 6))}
     return {
-        **found,
+        **found, **halves,
         "mod_sub from 3": Case(lambda a: lib.mod_sub(3, a, 13), A(4), lambda a: (3 - a) % 13, 4, 4, lambda a: a < 13),
         "a square": Case(lambda a: lib.mod_mul(a, a, 251), A(8), lambda a: a * a % 251, 129, 47, lambda a: a < 251),
         "mod_exp": Case(lambda a: lib.mod_exp(2, a, 15), A(4), lambda a: 2 ** a % 15, 1, 1),
@@ -277,6 +279,7 @@ REFUSED = [
     (lambda a, b: lib.sort(), "sort: Bits are wanted, or a list of them"),
     (lambda a, b: lib.keccak_chi(7), "keccak_chi: words of one width are wanted, or a number"),
     (lambda a, b: lib.mod_double(lib.as_signed(a), 7), "mod_double: `a` is Signed, and numbers below 7 are not: a.as_unsigned()"),
+    (lambda a, b: lib.mod_halve(a, 8), "mod_halve: modulo 8 two numbers have one double: only an odd modulus has halves"),
     (lambda a, b: lib.lookup(3, [5, 6]), "lookup(3, ..): a number that is known now takes an entry of a list"),
     (lambda a, b: lib.lookup(a, []), "lookup(..): 0 entries, and a number of 8 bits chooses among 256"),
 ]

@@ -14,11 +14,11 @@ from ..arithmetic import popcount
 from .boxes import aes_sbox, aes_sbox_inverse, ascon_sbox, keccak_chi, present_sbox
 from .division import divmod
 from .lookup import lookup
-from .modular import mod_add, mod_double, mod_exp, mod_mul, mod_sub
+from .modular import mod_add, mod_double, mod_exp, mod_halve, mod_mul, mod_sub
 from .order import max, min, sort
 from .prefix import add, less, sub
 from .signed import Signed, as_signed
 
 __all__ = ["Signed", "add", "aes_sbox", "aes_sbox_inverse", "as_signed", "ascon_sbox", "divmod", "keccak_chi", "less",
-           "lookup", "max", "min", "mod_add", "mod_double", "mod_exp", "mod_mul", "mod_sub", "popcount", "present_sbox", "sort",
-           "sub"]
+           "lookup", "max", "min", "mod_add", "mod_double", "mod_exp", "mod_halve", "mod_mul", "mod_sub", "popcount",
+           "present_sbox", "sort", "sub"]

@@ -109,6 +109,16 @@ def mod_double(x: Bits, m: int) -> Bits:
     return traced(f"moddouble{m}", [one], lambda x: mended(Cat(Const(0, 1), x) - Const(m, w + 1), m), x.width)
 
 
+@one_name
+def mod_halve(x: Bits, m: int) -> Bits:
+    """The number whose double modulo an odd m is x, of a number below m, as wide as it is: the inverse of `mod_double`."""
+    one, _ = both(x, x, m, "mod_halve")
+    if m % 2 == 0:
+        raise KindError(f"mod_halve: modulo {m} two numbers have one double: only an odd modulus has halves")
+    w = one.width
+    return traced(f"modhalve{m}", [one], lambda x: widen(x[1:], w) + masked(x[0], (m + 1) // 2, w), x.width)
+
+
 # ---- Products
 
 
