@@ -28,7 +28,7 @@ def in_place(options: argparse.Namespace) -> Netlist:
     if options.borrow or options.names:
         raise RevcError("--inplace: the lines have the names of the parameters, and none is borrowed")
     source = source_of(options.program).assuming(options.assume or None)
-    return source.compile_in_place(None, options.plan, options.lines, options.gates, options.nodes, options.timeout)
+    return source.compile_in_place(lines=options.lines, gates=options.gates, nodes=options.nodes, timeout=options.timeout)
 
 
 def do_compile(options: argparse.Namespace) -> None:

@@ -5,11 +5,12 @@ import os
 import re
 import traceback
 from collections import Counter
-from typing import Any, Callable, Dict, List, Tuple
+from typing import Any, Callable, Dict, Iterator, List, Optional, Tuple
 
 from . import trace
 from .errors import RevcError, WidthError
-from .functions import flatten, function, holds_bits, result_names, unflatten, widths
+from .functions import clean, flatten, function, holds_bits, result_names, unflatten, widths
+from .places import Cat
 from .sources import Source
 from .trace import Node, Program
 from .values import Bits, Width
@@ -72,6 +73,30 @@ class Oracle(Source):
 
     def number(self, name: str, bits: str) -> int:
         return read(super().number(name, bits), self.kinds[name])
+
+
+    def told_of(self, inverse: Source) -> Optional[Source]:
+        if not isinstance(inverse, Oracle):
+            return None
+
+        @functools.wraps(self.func)
+        def claimed(**given: Any) -> Any:
+            outputs = self(**given)
+            back = inverse(*cut(Cat(flatten(outputs, self.name)[0]), inverse))
+            clean(Cat(flatten(back, inverse.name)[0]) ^ Cat([given[name] for name, _ in self.params]))
+            return outputs
+        claimed.__annotations__ = dict(self.kinds)
+        told = Oracle(claimed)
+        told.assumed = self.assumed  # its claims come first, as they do in the function's own run
+        return told
+
+
+def cut(whole: Bits, taken: Oracle) -> Iterator[Bits]:
+    """The bits as an oracle's parameters, in order."""
+    at = 0
+    for name, width in taken.params:
+        yield taken.kinds[name].kind(whole[at:at + width].node)
+        at += width
 
 
 def read(number: int, width: Width) -> int:

@@ -1,4 +1,5 @@
 """Programs as they are compiled: a circuit, all circuits that can be had, and the best of these."""
+from contextlib import suppress
 from pathlib import Path
 from typing import Optional, Sequence, Union
 
@@ -54,14 +55,27 @@ class Source(RevsText):
                          nodes: int = NODES, timeout: Optional[float] = None) -> Netlist:
         """A circuit that ends with the outputs on the lines of the inputs, proved to do so on every input.
 
-        `inverse` takes the outputs to the inputs again; without it the program looks for a circuit. Outputs beyond the number
-        of inputs stand on lines of their own, the register `out`. `plan`, `lines` and `gates` are those of each of both
-        circuits, of which it is made.
+        The program looks for one; where it finds none, one is made of the function's circuit and that of `inverse`, which
+        takes the outputs to the inputs again. Of two oracles the program is told that the inverse leads back. Outputs beyond
+        the number of inputs stand on lines of their own, the register `out`. `lines` and `gates` are those of the circuit that
+        is looked for, or of each of both, which are made by `plan`.
         """
-        if inverse is None:
-            return self.found_in_place(plan, lines, gates, nodes, timeout)
-        check_widths(self.name, self.inputs, self.outputs, inverse.inputs, inverse.outputs)
         deadline = Deadline(timeout)
+        if inverse is None:
+            return self.found_in_place(lines, gates, nodes, deadline)
+        check_widths(self.name, self.inputs, self.outputs, inverse.inputs, inverse.outputs)
+        told = self.told_of(inverse)
+        if told is not None:
+            with suppress(Refused):  # what is wrong is said of the two circuits
+                return told.found_in_place(lines, gates, nodes, deadline)
+        return self.made_in_place(inverse, plan, lines, gates, nodes, deadline)
+
+    def told_of(self, inverse: "Source") -> Optional["Source"]:
+        """The same program with claims that the inverse leads back, where it can be written: of a text alone it cannot."""
+        return None
+
+    def made_in_place(self, inverse: "Source", plan: str, lines: int, gates: int, nodes: int, deadline: Deadline) -> Netlist:
+        """The circuit in place that is made of two circuits, and proved by `verify`."""
         one = self.compile(plan, lines, gates, 0, nodes, deadline.left())
         back = PLAN if plan == "compact" else plan  # whose outputs are added to the inputs
         circuit = in_place(one, inverse.compile(back, lines, gates, 0, nodes, deadline.left()))
@@ -71,11 +85,10 @@ class Source(RevsText):
             raise not_inverse(self.name, refusal) from None
         return circuit
 
-    def found_in_place(self, plan: str, lines: int, gates: int, nodes: int, timeout: Optional[float]) -> Netlist:
+    def found_in_place(self, lines: int, gates: int, nodes: int, deadline: Deadline) -> Netlist:
         """The circuit of `compile --outputs inputs`."""
-        words = ["compile", "--outputs", "inputs", "--plan", plan, "--lines", str(lines), "--gates", str(gates)]
-        words += ["--nodes", str(nodes), *self.granted]
-        listed = read_real(self.ask(words, deadline=Deadline(timeout)).decode())
+        words = ["compile", "--outputs", "inputs", "--lines", str(lines), "--gates", str(gates), "--nodes", str(nodes)]
+        listed = read_real(self.ask(words + self.granted, deadline=deadline).decode())
         return netlist_in_place(self.params, self.outputs - self.inputs, listed)
 
     def verify(self, circuit: Union[Circuit, Netlist, Compiled, str], nodes: int = NODES, borrow: int = 0, by: str = WAY,

@@ -1,9 +1,17 @@
 """Circuits in place: each input's lines end with the outputs, on every input, and a wrong inverse is refused."""
+import sys
 import unittest
-from typing import Callable, Dict, List, Tuple
+from itertools import product
+from pathlib import Path
+from random import Random
+from typing import Any, Callable, Dict, Iterator, List, Sequence, Tuple
 
-from revc import Cat, Oracle, RevcError, U1, U4, WidthError, assume, lib, oracle, table, widen
+from revc import Cat, Oracle, RevcError, Source, U1, U4, WidthError, assume, lib, oracle, table, widen
 from test_files import ran_by_gates
+
+sys.path.insert(0, str(Path(__file__).resolve().parent.parent / "examples"))
+
+from in_place import IN_PLACE, Placed
 
 PRESENT = [12, 5, 6, 11, 9, 0, 10, 13, 3, 14, 15, 8, 4, 7, 1, 2]
 
@@ -84,10 +92,36 @@ PAIRS: List[Tuple[Oracle, Oracle, Callable[..., int], int, int]] = [
 ]
 
 
+def rows(placed: Placed) -> Iterator[Tuple[int, ...]]:
+    """All inputs that are looked at, or 100 of them."""
+    most = [placed.most(width) for _, width in placed.oracle.params]
+    if placed.oracle.inputs <= 10:
+        return product(*map(range, most))
+    random = Random(1)
+    return (tuple(map(random.randrange, most)) for _ in range(100))
+
+
+def packed(numbers: Sequence[int], widths: Sequence[Tuple[str, int]]) -> int:
+    word, at = 0, 0
+    for number, (_, width) in zip(numbers, widths):
+        word, at = word | number << at, at + width
+    return word
+
+
 class InPlace(unittest.TestCase):
+    def test_examples(self) -> None:
+        for each in IN_PLACE:
+            circuit = each.oracle.compile_in_place(each.inverse)
+            for row in rows(each):
+                ended: Any = each.compute(*row)
+                outputs = ended if isinstance(ended, tuple) else (ended,)
+                self.assertEqual(ran_by_gates(circuit, packed(row, each.oracle.params)), packed(outputs, each.oracle.out),
+                                 (each.title, row))
+
     def test_pairs(self) -> None:
+        """Of two texts, of which the program is not told that one leads back from the other, a circuit is made."""
         for function, inverse, wanted, toffoli, lines in PAIRS:
-            circuit = function.compile_in_place(inverse)
+            circuit = Source(function.text, function.name, function.params, function.out).compile_in_place(inverse)
             widths: Dict[str, int] = dict(function.params)
             for bits in range(1 << function.inputs):
                 numbers, left = {}, bits
