@@ -10,6 +10,7 @@ use Rattle.circuit_plans.specs.declared.roles.Start.{Start}
 use Rattle.circuit_plans.specs.declared.roles.Start.TheVariants.{Any}
 use Rattle.circuit_plans.specs.Plans.{AddsOutputs, BudgetView, IsNarrowPlan, LaidView, PlannedView, roles_of_plan}
 use Rattle.claim_check.specs.Settled.{SettledView, settled_outputs}
+use Rattle.few_products.specs.Fewer.{IsFewerOf}
 use Rattle.flip_orders.specs.Orders.{IsReorderedPlan}
 use Rattle.flip_orders.proofs.ReorderingLemmas.{length-reordered, narrow-reordered}
 use Rattle.mct_circuit.specs.Gates.{AreNarrow}
@@ -22,8 +23,16 @@ use Rattle.eager_cleanup.proofs.PlanLemmas.{same_outputs}
 pub lean_outputs : (s : SettledView) (l : SumGraphView) → IsLeanOf s l → HasOutputsOf s l
 lean_outputs s l lean = record { inputs = lean.inputs; outputs = lean.outputs; values = lean.values }
 
-pub single_outputs : (s : SettledView) (l single : SumGraphView) → IsLeanOf s l → IsSingleOf l single → HasOutputsOf s single
-single_outputs s l single lean is = record {
+pub single_outputs : (s : SettledView) (l single : SumGraphView) → HasOutputsOf s l → IsSingleOf l single → HasOutputsOf s single
+single_outputs s l single has is = record {
+  inputs = is.inputs ∙ has.inputs;
+  outputs = is.outputs ∙ has.outputs;
+  values = λ input. is.values input ∙ has.values input;
+}
+
+-- a graph with fewer products than the lean one has its outputs
+pub fewer_outputs : (s : SettledView) (l f : SumGraphView) → IsLeanOf s l → IsFewerOf l f → HasOutputsOf s f
+fewer_outputs s l f lean is = record {
   inputs = is.inputs ∙ lean.inputs;
   outputs = is.outputs ∙ lean.outputs;
   values = λ input. is.values input ∙ lean.values input;

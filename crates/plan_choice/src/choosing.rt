@@ -15,6 +15,7 @@ use crate::shallow::or_shallower;
 use bit_sums::MOST_FACTOR_BITS;
 use circuit_plans::{Budget, Laid, Plan, PlanFault, Start};
 use claim_check::Settled;
+use few_products::few_products;
 use std::alloc::Global;
 use sum_graph::SumGraph;
 
@@ -97,7 +98,8 @@ fn lean_plan(alloc: Global, graph: &Settled, budget: &Budget, start: Start) -> T
     ensures refused_too { IfErr result (IsChoiceFault Compact graph.now budget.now) }
 {
     let lean = SumGraph::lean(alloc, graph, MOST_FACTOR_BITS)?;
-    lay_lean(alloc, graph, &lean, budget, start)
+    let fewer = few_products(alloc, &lean)?;
+    lay_lean(alloc, graph, &lean, fewer.as_ref(), budget, start)
 }
 
 // The best plan of the lean graph for any bits on the output lines, or a shallower one; the copied
@@ -108,7 +110,9 @@ fn shallow_plan(alloc: Global, graph: &Settled, budget: &Budget) -> Tried
     ensures chosen { IfOk result (IsShallow graph.now budget.now) }
     ensures refused { IfErr result (IsChoiceFault Shallow graph.now budget.now) }
 {
-    let tried = lean_plan(alloc, graph, budget, Start::Any);
-    let tried = or_shallower(alloc, graph, budget, tried);
+    let lean = SumGraph::lean(alloc, graph, MOST_FACTOR_BITS)?;
+    let fewer = few_products(alloc, &lean)?;
+    let tried = lay_lean(alloc, graph, &lean, fewer.as_ref(), budget, Start::Any);
+    let tried = or_shallower(alloc, graph, fewer.as_ref(), budget, tried);
     or_copied(alloc, graph, budget, tried)
 }

@@ -2,6 +2,7 @@
 ghost use Rattle.std.specs.Prelude.{◌≡◌, ◌⊎◌, ◌+◌, ◌≤◌, length, sum_by, IfErr, IfOk, IfSome, IsTrue, Ok};
 ghost use Rattle.circuit_plans.specs.declared.plan.TheConstants.{MOST_GATES};
 ghost use Rattle.circuit_plans.specs.Plans.{HasPortLines, IsNarrowPlan};
+ghost use Rattle.few_products.specs.Fewer.{IsFewerOf};
 ghost use Rattle.plan_choice.specs.inside.Tried.{AreFewBeside, IsLaidLean, IsLeanFault, IsMost};
 ghost use Rattle.plan_choice.specs.inside.Tried.{IsRow, IsWithin};
 ghost use Rattle.sum_graph.specs.Graphs.{IsLeanOf, first_work, sum_outputs};
@@ -14,7 +15,6 @@ use crate::singles::{Planner, plan_single};
 use bit_sums::Sum;
 use circuit_plans::{Budget, Laid, PlanFault, Planned, Size, Start};
 use claim_check::Settled;
-use few_products::few_products;
 use plan_tools::Limits;
 use std::alloc::Global;
 use sum_graph::SumGraph;
@@ -26,11 +26,13 @@ pub fn lay_lean(
     alloc: Global,
     graph: &Settled,
     lean: &SumGraph,
+    fewer: Option<&SumGraph>,
     budget: &Budget,
     start: Start,
 ) -> Tried
     requires ports { HasPortLines (first_work lean.now) budget.now }
     requires lean { IsLeanOf graph.now lean.now }
+    requires fewer { IfSome fewer (λ fewer. IsFewerOf lean.now fewer.now) }
     ensures ok { IfOk result (IsLaidLean start lean.now budget.now) }
     ensures refused { IfErr result (IsLeanFault lean.now budget.now) }
 {
@@ -41,41 +43,43 @@ pub fn lay_lean(
     let found = follow_moves(alloc, lean, budget, start, homes)?;
     let best = or_better(alloc, lean, budget, start, most, row, found);
     if start == Start::Any {
-        return or_fewer(alloc, lean, budget, start, most, best);
+        return or_fewer(alloc, lean, fewer, budget, start, most, best);
     }
     let spans = span_plans::plan(alloc, lean, limits);
     let found = follow_moves(alloc, lean, budget, start, spans)?;
     let best = or_better(alloc, lean, budget, start, most, best, found);
     let states = plan_single(alloc, graph, budget, start, Planner::State)?;
     let best = or_better(alloc, lean, budget, start, most, best, states);
-    or_fewer(alloc, lean, budget, start, most, best)
+    or_fewer(alloc, lean, fewer, budget, start, most, best)
 }
 
-// What was tried, or a better plan of a graph with fewer products, where one is found.
+// What was tried, or a better plan of a graph with fewer products, where there is one.
 fn or_fewer(
     alloc: Global,
     lean: &SumGraph,
+    fewer: Option<&SumGraph>,
     budget: &Budget,
     start: Start,
     most: Most,
     tried: Tried,
 ) -> Tried
     requires ports { HasPortLines (first_work lean.now) budget.now }
+    requires fewer { IfSome fewer (λ fewer. IsFewerOf lean.now fewer.now) }
     requires most { IsMost start lean.now budget.now most }
     requires ok { IfOk tried (IsLaidLean start lean.now budget.now) }
     requires refused { IfErr tried (IsLeanFault lean.now budget.now) }
     ensures ok { IfOk result (IsLaidLean start lean.now budget.now) }
     ensures refused { IfErr result (IsLeanFault lean.now budget.now) }
 {
-    let Some(fewer) = few_products(alloc, lean)? else {
+    let Some(fewer) = fewer else {
         return tried;
     };
-    let homes = plan_fewer(alloc, lean, &fewer, budget, start, FewerPlanner::Homes)?;
+    let homes = plan_fewer(alloc, lean, fewer, budget, start, FewerPlanner::Homes)?;
     let best = or_better(alloc, lean, budget, start, most, tried, homes);
     if start == Start::Any {
         return best;
     }
-    let spans = plan_fewer(alloc, lean, &fewer, budget, start, FewerPlanner::Spans)?;
+    let spans = plan_fewer(alloc, lean, fewer, budget, start, FewerPlanner::Spans)?;
     or_better(alloc, lean, budget, start, most, best, spans)
 }
 

@@ -1,31 +1,68 @@
 // Plans of small Toffoli depth.
-ghost use Rattle.std.specs.Prelude.{◌≡◌, ◌⊎◌, IfErr, IfOk, IfSome, Some};
+ghost use Rattle.std.specs.Prelude.{◌≡◌, ◌⊎◌, length, IfErr, IfOk, IfSome, Some};
 ghost use Rattle.circuit_plans.specs.declared.choice.Plan.TheVariants.{Shallow};
-ghost use Rattle.circuit_plans.specs.Plans.{HasPortLines};
+ghost use Rattle.circuit_plans.specs.declared.roles.Start.TheVariants.{Any};
+ghost use Rattle.circuit_plans.specs.Plans.{HasPortLines, IsNarrowPlan};
+ghost use Rattle.claim_check.specs.Settled.{settled_outputs};
 ghost use Rattle.eager_cleanup.specs.Eager.{ports_of};
 ghost use Rattle.flip_orders.specs.Orders.{IsReorderedPlan};
 ghost use Rattle.plan_choice.specs.Choices.{IsChoiceFault};
-ghost use Rattle.plan_choice.specs.inside.Tried.{IsShallowFor};
+ghost use Rattle.plan_choice.specs.inside.Tried.{HasOutputsOf, IsShallowFor};
 
 use crate::laying::{Tried, lay_narrow};
-use crate::singles::{Planner, plan_single};
-use circuit_plans::{Budget, Laid, PlanFault, Start};
+use crate::singles::{Planner, plan_single, plan_single_of};
+use circuit_plans::{Budget, Laid, PlanFault, Planned, Start};
 use claim_check::Settled;
 use flip_orders::{Goal, with_best_order};
 use mct_circuit::Circuit;
 use revc_base::Memory;
 use std::alloc::Global;
+use sum_graph::SumGraph;
 
 // The plan that was tried, with its gates in the best order, or one of small Toffoli depth that a
-// planner finds, where that is better by depth or no plan was laid.
-pub fn or_shallower(alloc: Global, graph: &Settled, budget: &Budget, tried: Tried) -> Tried
+// planner finds over the lean graph or the one with fewer products, where that is better by depth
+// or no plan was laid.
+pub fn or_shallower(
+    alloc: Global,
+    graph: &Settled,
+    fewer: Option<&SumGraph>,
+    budget: &Budget,
+    tried: Tried,
+) -> Tried
     requires ports { HasPortLines (ports_of graph.now) budget.now }
+    requires fewer { IfSome fewer (λ fewer. HasOutputsOf graph.now fewer.now) }
     requires ok { IfOk tried (IsShallowFor graph.now budget.now) }
     requires refused { IfErr tried (IsChoiceFault Shallow graph.now budget.now) }
     ensures ok { IfOk result (IsShallowFor graph.now budget.now) }
     ensures refused { IfErr result (IsChoiceFault Shallow graph.now budget.now) }
 {
-    let found = lay_single(alloc, graph, budget)?;
+    let planned = plan_single(alloc, graph, budget, Start::Any, Planner::Layers)?;
+    let best = or_laid(alloc, graph, budget, tried, planned);
+    let Some(fewer) = fewer else {
+        return best;
+    };
+    let planned = plan_single_of(alloc, graph, fewer, budget, Start::Any, Planner::Layers)?;
+    or_laid(alloc, graph, budget, best, planned)
+}
+
+// The plan that was tried, with its gates in the best order, or the one that was found, laid, where
+// that is better by depth or no plan was laid.
+fn or_laid(
+    alloc: Global,
+    graph: &Settled,
+    budget: &Budget,
+    tried: Tried,
+    planned: Option<Planned>,
+) -> Tried
+    requires ports { HasPortLines (ports_of graph.now) budget.now }
+    requires ok { IfOk tried (IsShallowFor graph.now budget.now) }
+    requires refused { IfErr tried (IsChoiceFault Shallow graph.now budget.now) }
+    requires planned { IfSome planned (IsNarrowPlan Any graph.now.inputs
+        (length graph.now.outputs) (settled_outputs graph.now) budget.now) }
+    ensures ok { IfOk result (IsShallowFor graph.now budget.now) }
+    ensures refused { IfErr result (IsChoiceFault Shallow graph.now budget.now) }
+{
+    let found = lay_found(alloc, graph, budget, planned)?;
     match tried {
         Ok(laid) => Ok(shallower_of(alloc, laid, found)?),
         Err(PlanFault::Memory(memory)) => Err(PlanFault::Memory(memory)),
@@ -33,13 +70,19 @@ pub fn or_shallower(alloc: Global, graph: &Settled, budget: &Budget, tried: Trie
     }
 }
 
-// The plan that is found over a graph of single products, laid, with its gates in the best order.
-fn lay_single(alloc: Global, graph: &Settled, budget: &Budget) -> Result<Option<Laid>, PlanFault>
+// The plan that was found, laid, with its gates in the best order.
+fn lay_found(
+    alloc: Global,
+    graph: &Settled,
+    budget: &Budget,
+    planned: Option<Planned>,
+) -> Result<Option<Laid>, PlanFault>
+    requires { IfSome planned (IsNarrowPlan Any graph.now.inputs
+        (length graph.now.outputs) (settled_outputs graph.now) budget.now) }
     ensures ok { IfOk result (λ found. IfSome found (IsShallowFor graph.now budget.now)) }
     ensures memory { IfErr result (λ fault. fault ≡ PlanFault.Memory _) }
 {
-    let planner = Planner::Layers;
-    let Some(planned) = plan_single(alloc, graph, budget, Start::Any, planner)? else {
+    let Some(planned) = planned else {
         return Ok(None);
     };
     let laid = lay_narrow(alloc, planned, budget)?;

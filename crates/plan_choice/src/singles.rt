@@ -41,7 +41,8 @@ impl Planner {
     }
 }
 
-// The plan that a planner finds over the graph of single products, if there is one.
+// The plan that a planner finds over the graph of single products of the lean graph, if there is
+// one.
 pub fn plan_single(
     alloc: Global,
     graph: &Settled,
@@ -53,7 +54,24 @@ pub fn plan_single(
         (length graph.now.outputs) (settled_outputs graph.now) budget.now)) }
 {
     let lean = SumGraph::lean(alloc, graph, planner.short_bits())?;
-    match single_products(alloc, &lean)? {
+    plan_single_of(alloc, graph, &lean, budget, start, planner)
+}
+
+// The plan that a planner finds over the graph of single products of a graph of sums, if there is
+// one, as one of the settled graph.
+pub fn plan_single_of(
+    alloc: Global,
+    graph: &Settled,
+    sums: &SumGraph,
+    budget: &Budget,
+    start: Start,
+    planner: Planner,
+) -> Result<Option<Planned>, Memory>
+    requires { HasOutputsOf graph.now sums.now }
+    ensures { IfOk result (λ found. IfSome found (IsNarrowPlan start graph.now.inputs
+        (length graph.now.outputs) (settled_outputs graph.now) budget.now)) }
+{
+    match single_products(alloc, sums)? {
         Some(single) => plan_over(alloc, graph, &single, budget, start, planner),
         None => Ok(None),
     }

@@ -1,10 +1,15 @@
+use Rattle.circuit_plans.specs.declared.roles.Start.TheVariants.{Any}
+use Rattle.plan_choice.proofs.LeanLemmas.{laid_for_lean, laid_lean, lean_refused}
 use Rattle.plan_choice.proofs.ShallowLemmas.{shallow_of_lean, shallow_refused}
 use Rattle.plan_choice.proofs.choosing.shallow_plan.Goals as goal
 
 pub or_shallower-tried-requires-clause-ok : goal.or_shallower-tried-requires-clause-ok
 or_shallower-tried-requires-clause-ok c =
-    shallow_of_lean c.args.graph.now c.args.budget.now c.lean_plan-tried.result c.lean_plan-tried.ensures.ok c.lean_plan-tried.ensures.chosen
+    let s = c.args.graph.now in let b = c.args.budget.now in let l = c.in_ok-lean.lean in
+    let is = c.in_ok-lean.ensures.lean in let tried = c.lay_lean-tried in
+    shallow_of_lean s b tried.result (laid_for_lean s l b is Any tried.result tried.ensures.ok) (laid_lean s l b is Any tried.result tried.ensures.ok)
 
 pub or_shallower-tried-requires-clause-refused : goal.or_shallower-tried-requires-clause-refused
 or_shallower-tried-requires-clause-refused c =
-    shallow_refused c.args.graph.now c.args.budget.now c.lean_plan-tried.result c.lean_plan-tried.ensures.refused
+    let s = c.args.graph.now in let b = c.args.budget.now in let tried = c.lay_lean-tried in
+    shallow_refused s b tried.result (lean_refused s c.in_ok-lean.lean b c.in_ok-lean.ensures.lean tried.result tried.ensures.refused)

@@ -1,5 +1,5 @@
 use Rattle.plan_choice.proofs.ShallowLemmas.{shallow_best}
-use Rattle.plan_choice.proofs.shallow.or_shallower.Goals as goal
+use Rattle.plan_choice.proofs.shallow.or_laid.Goals as goal
 
 pub returns-in_ok-shallower_of-in-Ok-clause-ok : goal.returns-in_ok-shallower_of-in-Ok-clause-ok
 returns-in_ok-shallower_of-in-Ok-clause-ok c =
