@@ -24,7 +24,8 @@ pub struct Draft<'n> {
     pub toggles: Vec<Toggle>,
     /// The looks at nodes.
     pub work: Work,
-    most_gates: u64,
+    /// The most gates, and Toffoli gates, that it may have.
+    most: Weight,
     free: FreeLines,
     /// Of each node the line on which it is held.
     lines: Table<u32>,
@@ -32,8 +33,8 @@ pub struct Draft<'n> {
 }
 
 impl<'n> Draft<'n> {
-    /// The draft that holds nothing yet.
-    pub fn new(alloc: Global, nodes: &'n Nodes, limits: Limits) -> Draft<'n> {
+    /// The draft that holds nothing yet, of at most so many Toffoli gates.
+    pub fn new(alloc: Global, nodes: &'n Nodes, limits: Limits, toffoli: u64) -> Draft<'n> {
         let mut work = Work::new(alloc, MOST_LOOKS);
         let ports = nodes.ports();
         let room = match limits.work_lines(ports) {
@@ -48,7 +49,10 @@ impl<'n> Draft<'n> {
             nodes,
             toggles: Vec::new(alloc),
             work,
-            most_gates: limits.gates,
+            most: Weight {
+                gates: limits.gates,
+                toffoli,
+            },
             free: FreeLines::new(alloc, ports, ports.saturating_add(room)),
             lines,
             weight: nodes.copies,
@@ -68,6 +72,11 @@ impl<'n> Draft<'n> {
     pub fn size(&self) -> Result<Size, Stop> {
         let Weight { toffoli, gates } = self.weight;
         self.work.finish(Size::new(toffoli, self.lines(), gates))
+    }
+
+    /// Whether it has more Toffoli gates than it may have.
+    pub fn is_beyond(&self) -> bool {
+        self.weight.toffoli > self.most.toffoli
     }
 
     /// Whether no work line is free.
@@ -128,7 +137,7 @@ impl<'n> Draft<'n> {
     fn toggle(&mut self, node: u32, line: u32) {
         self.work.spend(1);
         self.weight = self.weight.plus(self.nodes.weight(node));
-        if self.weight.gates > self.most_gates {
+        if self.weight.gates > self.most.gates || self.is_beyond() {
             self.work.give_up();
         }
         self.work.push(&mut self.toggles, Toggle { node, line });

@@ -132,6 +132,15 @@ impl Nodes {
         self.weights.get(node)
     }
 
+    /// The Toffoli gates that any plan has: each node is toggled once.
+    pub fn least_toffoli(&self) -> u64 {
+        let mut least = self.copies;
+        for weight in self.weights.items() {
+            least = least.plus(*weight);
+        }
+        least.toffoli
+    }
+
     /// The last node that uses this one; the number of nodes where it is held up to the end, and
     /// itself where neither.
     pub fn last_use(&self, node: u32) -> u32 {

@@ -21,9 +21,16 @@ pub enum Order {
 }
 
 impl Order {
-    /// The draft in which nodes are held and cleared in this order.
-    pub fn draft<'n>(self, alloc: Global, nodes: &'n Nodes, limits: Limits) -> Draft<'n> {
-        let mut draft = Draft::new(alloc, nodes, limits);
+    /// The draft in which nodes are held and cleared in this order, of at most so many Toffoli
+    /// gates.
+    pub fn draft<'n>(
+        self,
+        alloc: Global,
+        nodes: &'n Nodes,
+        limits: Limits,
+        toffoli: u64,
+    ) -> Draft<'n> {
+        let mut draft = Draft::new(alloc, nodes, limits, toffoli);
         match self {
             Order::Ready => draft.hold_ready(),
             Order::Segments { length } => draft.hold_segments(length),

@@ -1,4 +1,5 @@
 // The best of the plans with homes.
+use crate::draft::Draft;
 use crate::nodes::Nodes;
 use crate::orders::Order;
 use crate::script::moves_of;
@@ -22,21 +23,30 @@ const DEPTHS: u32 = 24;
 /// by its Toffoli gates, then by lines times gates, then by lines, which no clause says. With
 /// `homes`, some nodes stand on the lines of outputs, which hold 0 in the beginning; without, these
 /// may hold anything: what comes to them are the outputs alone. It has at most a line for each
-/// input, output and node.
+/// input, output and node, and at most `toffoli` Toffoli gates.
 ///
 /// # Errors
 ///
 /// `GaveUp` where none of the plans that are tried is within the limits.
-pub fn plan(alloc: Global, graph: &SumGraph, limits: Limits, homes: bool) -> Result<Moves, Stop> {
+pub fn plan(
+    alloc: Global,
+    graph: &SumGraph,
+    limits: Limits,
+    homes: bool,
+    toffoli: u64,
+) -> Result<Moves, Stop> {
     let mut work = Work::new(alloc, 0);
     let nodes = Nodes::of(&mut work, graph, homes);
     let mut search = Search {
         nodes: &nodes,
         limits,
+        toffoli,
         best: None,
         work,
     };
-    search.try_all();
+    if nodes.least_toffoli() <= toffoli {
+        search.try_all();
+    }
     search.moves(graph)
 }
 
@@ -45,6 +55,8 @@ pub fn plan(alloc: Global, graph: &SumGraph, limits: Limits, homes: bool) -> Res
 struct Search<'n> {
     nodes: &'n Nodes,
     limits: Limits,
+    /// The most Toffoli gates that a plan may have.
+    toffoli: u64,
     best: Option<Found>,
     /// Refused memory.
     work: Work,
@@ -80,9 +92,15 @@ impl<'n> Search<'n> {
         }
     }
 
-    // Whether a plan of this order fits. Where it is better than those before, it is the best one.
+    fn draft(&self, order: Order) -> Draft<'n> {
+        order.draft(self.work.alloc, self.nodes, self.limits, self.toffoli)
+    }
+
+    // Whether a plan of this order fits, or has too many Toffoli gates. Where it is better than
+    // those before, it is the best one.
     fn fits(&mut self, order: Order) -> bool {
-        match order.draft(self.work.alloc, self.nodes, self.limits).size() {
+        let draft = self.draft(order);
+        match draft.size() {
             Ok(size) => {
                 self.note(Found { size, order });
                 true
@@ -91,7 +109,7 @@ impl<'n> Search<'n> {
                 self.work.stop(Stop::Memory(refused));
                 false
             }
-            Err(Stop::GaveUp) => false,
+            Err(Stop::GaveUp) => draft.is_beyond(),
         }
     }
 
@@ -108,10 +126,7 @@ impl<'n> Search<'n> {
     // The moves of the best plan.
     fn moves(&self, graph: &'n SumGraph) -> Result<Moves, Stop> {
         match self.work.finish(self.best) {
-            Ok(Some(best)) => {
-                let draft = best.order.draft(self.work.alloc, self.nodes, self.limits);
-                moves_of(self.work.alloc, graph, &draft)
-            }
+            Ok(Some(best)) => { moves_of(self.work.alloc, graph, &self.draft(best.order)) }
             Ok(None) => Err(Stop::GaveUp),
             Err(stop) => Err(stop),
         }

@@ -8,6 +8,7 @@ ghost use Rattle.circuit_plans.specs.declared.roles.Start.TheVariants.{Any};
 ghost use Rattle.circuit_plans.specs.Plans.{HasPortLines, start_of};
 
 use crate::copied::or_copied;
+use crate::fewer::worth_a_search;
 use crate::laying::{Tried, is_refused, lay_eager};
 use crate::lean::lay_lean;
 use crate::search::lay_pebbling;
@@ -113,6 +114,7 @@ fn shallow_plan(alloc: Global, graph: &Settled, budget: &Budget) -> Tried
     let lean = SumGraph::lean(alloc, graph, MOST_FACTOR_BITS)?;
     let fewer = few_products(alloc, &lean)?;
     let tried = lay_lean(alloc, graph, &lean, fewer.as_ref(), budget, Start::Any);
-    let tried = or_shallower(alloc, graph, fewer.as_ref(), budget, tried);
+    let fewer = worth_a_search(&lean, fewer.as_ref());
+    let tried = or_shallower(alloc, graph, fewer, budget, tried);
     or_copied(alloc, graph, budget, tried)
 }

@@ -13,13 +13,16 @@ use revc_base::Memory;
 use std::alloc::Global;
 use sum_graph::SumGraph;
 
-// Which planner is asked.
+// One node in so many has to go.
+const LEAST_GAIN: u64 = 50;
+
+// Which planner is asked, for a plan of at most so many Toffoli gates.
 #[derive(Clone, Copy)]
 pub enum FewerPlanner {
     // One that keeps each node on one line.
-    Homes,
+    Homes { toffoli: u64 },
     // One that sweeps over spans.
-    Spans,
+    Spans { toffoli: u64 },
 }
 
 impl FewerPlanner {
@@ -31,8 +34,10 @@ impl FewerPlanner {
         start: Start,
     ) -> Result<Moves, Stop> {
         match self {
-            FewerPlanner::Homes => home_plans::plan(alloc, sums, limits, start == Start::Zero),
-            FewerPlanner::Spans => span_plans::plan(alloc, sums, limits),
+            FewerPlanner::Homes { toffoli } => {
+                home_plans::plan(alloc, sums, limits, start == Start::Zero, toffoli)
+            }
+            FewerPlanner::Spans { toffoli } => span_plans::plan(alloc, sums, limits, toffoli),
         }
     }
 }
@@ -52,4 +57,19 @@ pub fn plan_fewer(
 {
     let moves = planner.moves(alloc, fewer, limits_of(budget), start);
     follow_moves(alloc, fewer, budget, start, moves)
+}
+
+// A graph with fewer products that has fewer nodes too, by one in fifty: where it has not, a second
+// search seldom gains what it takes.
+pub fn worth_a_search<'g>(lean: &SumGraph, fewer: Option<&'g SumGraph>) -> Option<&'g SumGraph>
+    requires { IfSome fewer (λ fewer. IsFewerOf lean.now fewer.now) }
+    ensures { IfSome result (λ fewer. IsFewerOf lean.now fewer.now) }
+{
+    let fewer = fewer?;
+    let most = u64::from(lean.nodes()) * (LEAST_GAIN - 1);
+    if u64::from(fewer.nodes()) * LEAST_GAIN <= most {
+        Some(fewer)
+    } else {
+        None
+    }
 }

@@ -21,7 +21,8 @@ use sum_graph::SumGraph;
 use sum_toggles::weight_within;
 
 // The best plan of a lean graph: that of its row, or one that a planner finds, where the output
-// lines may hold what `start` says. To add a planner is a line here.
+// lines may hold what `start` says. States come first, and the other planners leave out what has
+// more Toffoli gates.
 pub fn lay_lean(
     alloc: Global,
     graph: &Settled,
@@ -38,17 +39,18 @@ pub fn lay_lean(
 {
     let row = lay_row(alloc, lean, budget);
     let most = most_of(lean, budget, start, &row);
+    let states = plan_single(alloc, graph, budget, start, Planner::State)?;
     let limits = limits_of(budget);
-    let homes = home_plans::plan(alloc, lean, limits, start == Start::Zero);
+    let toffoli = most.toffoli_with(budget, &states);
+    let homes = home_plans::plan(alloc, lean, limits, start == Start::Zero, toffoli);
     let found = follow_moves(alloc, lean, budget, start, homes)?;
     let best = or_better(alloc, lean, budget, start, most, row, found);
     if start == Start::Any {
         return or_fewer(alloc, lean, fewer, budget, start, most, best);
     }
-    let spans = span_plans::plan(alloc, lean, limits);
+    let spans = span_plans::plan(alloc, lean, limits, least_toffoli(&best, toffoli));
     let found = follow_moves(alloc, lean, budget, start, spans)?;
     let best = or_better(alloc, lean, budget, start, most, best, found);
-    let states = plan_single(alloc, graph, budget, start, Planner::State)?;
     let best = or_better(alloc, lean, budget, start, most, best, states);
     or_fewer(alloc, lean, fewer, budget, start, most, best)
 }
@@ -74,12 +76,16 @@ fn or_fewer(
     let Some(fewer) = fewer else {
         return tried;
     };
-    let homes = plan_fewer(alloc, lean, fewer, budget, start, FewerPlanner::Homes)?;
+    let toffoli = least_toffoli(&tried, most.toffoli);
+    let planner = FewerPlanner::Homes { toffoli };
+    let homes = plan_fewer(alloc, lean, fewer, budget, start, planner)?;
     let best = or_better(alloc, lean, budget, start, most, tried, homes);
     if start == Start::Any {
         return best;
     }
-    let spans = plan_fewer(alloc, lean, fewer, budget, start, FewerPlanner::Spans)?;
+    let toffoli = least_toffoli(&best, toffoli);
+    let planner = FewerPlanner::Spans { toffoli };
+    let spans = plan_fewer(alloc, lean, fewer, budget, start, planner)?;
     or_better(alloc, lean, budget, start, most, best, spans)
 }
 
@@ -110,6 +116,22 @@ pub struct Most {
     lines: u32,
     toffoli: u64,
     gates: u64,
+}
+
+impl Most {
+    // The Toffoli gates that a plan may have to be better than one that was found.
+    fn toffoli_with(self, budget: &Budget, found: &Option<Planned>) -> u64 {
+        let Some(planned) = found else {
+            return self.toffoli;
+        };
+        let circuit = planned.circuit();
+        let lines = circuit.lines().saturating_add(budget.borrow());
+        if lines <= self.lines && circuit.len() <= self.gates {
+            self.toffoli.min(circuit.counts().ccx)
+        } else {
+            self.toffoli
+        }
+    }
 }
 
 // The lines of the row, and where its plan was laid, its Toffoli gates and gates as `gates_beside`
@@ -177,6 +199,14 @@ fn is_within(most: Most, laid: &Laid) -> bool
 }
 
 // ---- the better of two plans
+
+// The Toffoli gates of the plan that was tried, where these are less than so many.
+fn least_toffoli(tried: &Tried, most: u64) -> u64 {
+    match tried {
+        Ok(laid) => most.min(laid.circuit().counts().ccx),
+        Err(_) => most,
+    }
+}
 
 // The better of what was tried and of a plan that was found, where this one is within the most.
 fn or_better(

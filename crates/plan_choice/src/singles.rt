@@ -33,6 +33,14 @@ impl Planner {
         }
     }
 
+    // Whether its output lines may hold that at the start.
+    fn takes(self, start: Start) -> bool {
+        match self {
+            Planner::Layers => true,
+            Planner::State => start == Start::Zero,
+        }
+    }
+
     fn moves(self, alloc: Global, sums: &SumGraph, limits: Limits) -> Result<Moves, Stop> {
         match self {
             Planner::Layers => shallow_plans::plan(alloc, sums, limits),
@@ -42,7 +50,7 @@ impl Planner {
 }
 
 // The plan that a planner finds over the graph of single products of the lean graph, if there is
-// one.
+// one; none where the output lines may hold what it does not take.
 pub fn plan_single(
     alloc: Global,
     graph: &Settled,
@@ -53,6 +61,9 @@ pub fn plan_single(
     ensures { IfOk result (λ found. IfSome found (IsNarrowPlan start graph.now.inputs
         (length graph.now.outputs) (settled_outputs graph.now) budget.now)) }
 {
+    if !planner.takes(start) {
+        return Ok(None);
+    }
     let lean = SumGraph::lean(alloc, graph, planner.short_bits())?;
     plan_single_of(alloc, graph, &lean, budget, start, planner)
 }

@@ -10,19 +10,21 @@ use std::alloc::Global;
 use sum_graph::SumGraph;
 
 /// The moves of the best span plan that a search of bounded work finds within limits, by Toffoli
-/// gates, then by lines times gates, then by lines, which no clause says. How many gates it has is
-/// looked at by whoever follows the moves.
+/// gates, then by lines times gates, then by lines, which no clause says. Plans of more than
+/// `toffoli` Toffoli gates are not looked for. How many gates it has is looked at by whoever
+/// follows the moves.
 ///
 /// # Errors
 ///
 /// `GaveUp` where no plan is found; `Memory` where memory is refused. No clause says so.
-pub fn plan(alloc: Global, graph: &SumGraph, limits: Limits) -> Result<Moves, Stop> {
+pub fn plan(alloc: Global, graph: &SumGraph, limits: Limits, toffoli: u64) -> Result<Moves, Stop> {
     let ports = graph.inputs().saturating_add(number(graph.outputs().len()));
     let Some(room) = limits.work_lines(ports) else {
         return Err(Stop::GaveUp);
     };
     let lowered = lower(alloc, graph)?;
-    let candidates = best_sweeps(alloc, &lowered, ports.saturating_add(limits.borrow), room)?;
+    let others = ports.saturating_add(limits.borrow);
+    let candidates = best_sweeps(alloc, &lowered, others, room, toffoli)?;
     let replays = Replays {
         alloc,
         sums: graph,

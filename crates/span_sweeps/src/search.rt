@@ -83,9 +83,10 @@ struct Best {
 }
 
 impl Best {
-    fn none() -> Best {
+    // None yet, where only sweeps of at most so many Toffoli gates are kept.
+    fn none(toffoli: u64) -> Best {
         Best {
-            size: Size::MOST,
+            size: Size::new(toffoli, u32::MAX, u64::MAX),
             candidate: None,
         }
     }
@@ -115,7 +116,8 @@ struct Search<'g> {
 
 /// The best sweep that fits `room` work lines beside `ports` other lines: first without cleaning,
 /// and where that takes too many lines, with as few segments cleaned as there have to be. Where the
-/// work is spent, what was found until then counts.
+/// work is spent, what was found until then counts. Sweeps of more than `toffoli` Toffoli gates are
+/// left out, and all others where the first one has more: cleaning adds to them.
 ///
 /// # Errors
 ///
@@ -125,14 +127,15 @@ pub fn best_sweeps(
     graph: &SpanGraph,
     ports: u32,
     room: u32,
+    toffoli: u64,
 ) -> Result<Candidates, Stop> {
     let mut search = Search {
         work: Work::new(alloc, MOST_WORK),
         graph,
         ports,
         room,
-        best: Best::none(),
-        near: Best::none(),
+        best: Best::none(toffoli),
+        near: Best::none(toffoli),
     };
     search.try_all();
     if let Err(Stop::Memory(memory)) = search.work.finish(()) {
@@ -158,7 +161,10 @@ impl Search<'_> {
     // are none yet; whether something fits without cleaning.
     fn try_most(&mut self, segments: &mut Vec<Vec<u32>>, most: usize) -> bool {
         let mut whole = Rule::whole(&mut self.work, self.graph.nodes.len());
-        self.sweep_twice(&mut whole, most, 0);
+        let outcome = self.sweep_twice(&mut whole, most, 0);
+        if self.is_beyond(outcome.measures.toffoli) {
+            return false;
+        }
         if segments.is_empty() {
             self.find_segments(segments, &whole.ranks);
         }
