@@ -1,0 +1,11 @@
+//! How a graph of sums of few inputs is left with fewer products by the values that its nodes have
+//! in all rows of these. Of none of it anything is promised.
+#![tactic(auto)]
+
+mod needless;
+mod rows;
+mod spans;
+mod tables;
+
+pub use needless::drop_needless;
+pub use tables::by_table;
