@@ -19,8 +19,8 @@ use symbol_graphs::Proposal;
 use wide_sums::WideSum;
 
 /// A graph of sums with the values of this one and with fewer products, so far as a search finds
-/// one: sums are rewritten over at most six sums of bits. The work of the search is bounded, by 100
-/// million units and 4,000 a product.
+/// one: sums are rewritten over at most sixteen sums of bits. The work of the search is bounded, by
+/// 100 million units and 4,000 a product.
 ///
 /// # Errors
 ///

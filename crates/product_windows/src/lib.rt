@@ -2,6 +2,7 @@
 //! answers steps; of none of them anything is promised.
 #![tactic(auto)]
 
+mod grouping;
 mod growing;
 mod naming;
 mod passes;

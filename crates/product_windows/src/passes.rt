@@ -52,7 +52,6 @@ pub struct Search {
 
 /// Passes in one order until none gains, with simpler products where nothing else is found.
 pub fn settle(graph: &mut Graph, work: &mut Work, order: Order, most_units: u64) {
-    clean(graph, work);
     let mut search = Search {
         order,
         most_units,
@@ -102,7 +101,8 @@ fn pass(graph: &mut Graph, work: &mut Work, search: Search) -> usize {
     simpler
 }
 
-fn nodes_in_order(graph: &Graph, work: &mut Work, order: Order) -> Vec<u32> {
+/// The nodes that are there, in an order.
+pub fn nodes_in_order(graph: &Graph, work: &mut Work, order: Order) -> Vec<u32> {
     let mut places = Vec::new(work.alloc);
     for node in 0..graph.nodes() {
         let place = graph.node_place(node);

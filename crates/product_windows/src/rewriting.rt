@@ -152,8 +152,8 @@ fn is_inner(program: &Program, place: usize) -> bool {
         .any(|(a, b)| (*a | *b) & !ONE & bit(place) != 0)
 }
 
-// A new node with a product; its symbol, and the constant that the product has beside it.
-fn product_node(
+/// A new node with a product; its symbol, and the constant that the product has beside it.
+pub fn product_node(
     graph: &mut Graph,
     work: &mut Work,
     target: u32,
@@ -172,8 +172,8 @@ fn product_node(
     name
 }
 
-// Gives a node another sum of the same value.
-fn put(graph: &mut Graph, work: &mut Work, target: u32, sum: SymbolSum, opened: Opened) {
+/// Gives a node another sum of the same value.
+pub fn put(graph: &mut Graph, work: &mut Work, target: u32, sum: SymbolSum, opened: Opened) {
     let mut change = sum.copy(work);
     if let Some(old) = graph.sum(target) {
         change.add(work, old);

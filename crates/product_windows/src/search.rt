@@ -1,6 +1,8 @@
 // The search from both sides.
+use crate::grouping::regroup;
 use crate::passes::{FEW_PRODUCTS, Order, settle};
 use plan_tools::{Stop, Work};
+use product_rows::{by_table, drop_needless};
 use std::alloc::Global;
 use symbol_graphs::{Graph, Proposal, Sums, SymbolSum, clean};
 
@@ -16,7 +18,8 @@ const MOST_TURNS: usize = 6;
 const LEAST_GAIN: usize = 50;
 
 /// Steps that leave a graph of sums with fewer products, so far as some are found: from the inputs,
-/// and from the outputs, each in turns with the other, as long as that gains.
+/// and from the outputs, each in turns with the other, as long as that gains; and from a table of
+/// the outputs.
 ///
 /// # Errors
 ///
@@ -25,23 +28,51 @@ const LEAST_GAIN: usize = 50;
 pub fn propose(alloc: Global, sums: &Sums) -> Result<Proposal, Stop> {
     let mut work = Work::new(alloc, u64::MAX);
     let begun = Graph::of(&mut work, sums);
-    let mut first = begun.copy(&mut work);
     let bounds = Bounds::of(sums);
-    let forth = best_from(&mut first, &mut work, Order::Forth, bounds);
+    let first = begun.copy(&mut work);
+    let forth = from_inputs(first, &mut work, bounds);
     if forth.products >= bounds.products && bounds.are_many() {
         work.finish(())?;
         return Err(Stop::GaveUp);
     }
     if bounds.is_fruitless(forth.products) {
-        return work.finish(first.into_proposal(forth.steps));
+        return work.finish(forth.into_proposal());
     }
-    let mut second = begun;
-    let back = best_from(&mut second, &mut work, Order::Back, bounds);
-    if back.products < forth.products {
-        work.finish(second.into_proposal(back.steps))
-    } else {
-        work.finish(first.into_proposal(forth.steps))
+    let second = begun.copy(&mut work);
+    let back = from_outputs(second, &mut work, bounds, forth.has_gained());
+    let best = with_table(begun, &mut work, bounds, forth.better(back));
+    work.finish(best.into_proposal())
+}
+
+// The search that begins from the inputs.
+fn from_inputs(graph: Graph, work: &mut Work, bounds: Bounds) -> Attempt {
+    let mut attempt = Attempt::new(graph, work);
+    attempt.search(work, Order::Forth, bounds);
+    attempt
+}
+
+// The search that begins from the outputs, unless nothing was gained and nothing is new.
+fn from_outputs(graph: Graph, work: &mut Work, bounds: Bounds, had_gain: bool) -> Attempt {
+    let mut attempt = Attempt::new(graph, work);
+    let done = attempt.graph.done();
+    attempt.prepare(work, bounds);
+    if had_gain || attempt.graph.done() > done {
+        attempt.search(work, Order::Back, bounds);
     }
+    attempt
+}
+
+// The better one of an attempt and of that from a table, where this is not far from it.
+fn with_table(begun: Graph, work: &mut Work, bounds: Bounds, best: Attempt) -> Attempt {
+    let mut graph = begun;
+    if !by_table(&mut graph, work) {
+        return best;
+    }
+    clean(&mut graph, work);
+    if graph.count() >= best.products.saturating_mul(2) {
+        return best;
+    }
+    best.better(from_inputs(graph, work, bounds))
 }
 
 // How many products there were before anything was done, and the units that may be spent.
@@ -82,40 +113,85 @@ fn count_of(sums: &[SymbolSum]) -> usize {
     count
 }
 
-// How few products there were, and behind how many steps.
-#[derive(Clone, Copy)]
-struct Best {
+// A graph, how many products it had before, how few then, and behind how many steps.
+#[derive(Drop)]
+struct Attempt {
+    graph: Graph,
+    begun: usize,
     products: usize,
     steps: usize,
 }
 
-fn best_from(graph: &mut Graph, work: &mut Work, start: Order, bounds: Bounds) -> Best {
-    clean(graph, work);
-    let mut best = Best {
-        products: graph.count(),
-        steps: graph.done(),
-    };
-    let mut order = start;
-    let mut last = usize::MAX;
-    for _ in 0..MOST_TURNS {
-        settle(graph, work, order, bounds.units);
-        let now = graph.count();
-        if now < best.products {
-            best = Best {
-                products: now,
-                steps: graph.done(),
-            };
+impl Attempt {
+    // The graph once it is clean.
+    fn new(graph: Graph, work: &mut Work) -> Attempt {
+        let mut graph = graph;
+        clean(&mut graph, work);
+        Attempt {
+            begun: graph.count(),
+            products: graph.count(),
+            steps: graph.done(),
+            graph,
         }
-        let is_first = last == usize::MAX;
-        let gains = now.saturating_mul(LEAST_GAIN) <= last.saturating_mul(LEAST_GAIN - 1);
-        if now >= last || now == 0 || work.is_stopped() || work.spent() > bounds.units {
-            break;
-        }
-        if bounds.is_fruitless(now) || !is_first && !gains {
-            break;
-        }
-        last = now;
-        order = order.turned();
     }
-    best
+
+    fn has_gained(&self) -> bool {
+        self.products < self.begun
+    }
+
+    // Plateaus in both orders, as long as they gain.
+    fn search(&mut self, work: &mut Work, start: Order, bounds: Bounds) {
+        let mut order = start;
+        let mut last = usize::MAX;
+        for turn in 0..MOST_TURNS {
+            if turn > 0 {
+                self.prepare(work, bounds);
+            }
+            let now = self.settle(work, order, bounds.units);
+            let gains = now.saturating_mul(LEAST_GAIN) <= last.saturating_mul(LEAST_GAIN - 1);
+            if now >= last.min(self.begun) || now == 0 || work.is_stopped() {
+                return;
+            }
+            if work.spent() > bounds.units || bounds.is_fruitless(now) || turn > 0 && !gains {
+                return;
+            }
+            last = now;
+            order = order.turned();
+        }
+    }
+
+    // Takes out what all rows of few inputs show, and groups products anew.
+    fn prepare(&mut self, work: &mut Work, bounds: Bounds) {
+        if work.spent() > bounds.units {
+            return;
+        }
+        drop_needless(&mut self.graph, work);
+        clean(&mut self.graph, work);
+        regroup(&mut self.graph, work);
+        clean(&mut self.graph, work);
+    }
+
+    // Passes in one order until none gains; how many products there are then.
+    fn settle(&mut self, work: &mut Work, order: Order, most_units: u64) -> usize {
+        settle(&mut self.graph, work, order, most_units);
+        let now = self.graph.count();
+        if now < self.products {
+            self.products = now;
+            self.steps = self.graph.done();
+        }
+        now
+    }
+
+    // The one with fewer products.
+    fn better(self, other: Attempt) -> Attempt {
+        if other.products < self.products {
+            other
+        } else {
+            self
+        }
+    }
+
+    fn into_proposal(self) -> Proposal {
+        self.graph.into_proposal(self.steps)
+    }
 }
