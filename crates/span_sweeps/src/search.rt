@@ -37,6 +37,9 @@ const MOST_DEPTHS: u32 = 32;
 /// How many rules are tried with blocks.
 const MOST_BLOCKED: usize = 2;
 
+/// The lines of a rule that is not tried with blocks.
+const NEVER: u32 = u32::MAX;
+
 /// How many lines more than there may be a sweep is kept with, whose nodes may be written out.
 const MOST_OVER: u32 = 64;
 
@@ -179,7 +182,8 @@ impl Search<'_> {
         fits
     }
 
-    // Each rule with some segments cleaned, and, if none of them fits, with blocks.
+    // Each rule with some segments cleaned, and, if none of them fits, with blocks, where not even
+    // those without have too many Toffoli gates.
     fn try_cleaned(&mut self, rules: &mut Vec<Rule>, most: usize, ranks: &[u32]) {
         for rule in rules.iter_mut() {
             rule.least = self.clean(rule, most);
@@ -189,7 +193,9 @@ impl Search<'_> {
         }
         self.work.note(rules.sort_by_key(|rule| rule.least));
         for rule in rules.iter_mut().take(MOST_BLOCKED) {
-            self.try_blocks(rule, most, ranks);
+            if rule.least != NEVER {
+                self.try_blocks(rule, most, ranks);
+            }
         }
     }
 
@@ -241,13 +247,14 @@ impl Search<'_> {
     }
 
     // Looks for the least number of segments that have to be cleaned, where all of them are enough;
-    // the lines of the sweep that cleans all.
+    // the lines of the sweep that cleans all, and `NEVER` where it has too many Toffoli gates.
     fn clean(&mut self, rule: &mut Rule, most: usize) -> u32 {
         let all = rule.starts.len();
         let outcome = self.sweep_twice(rule, most, all);
         let least = outcome.measures.work;
         if !outcome.fits {
-            return least;
+            let too_many = self.is_beyond(outcome.measures.toffoli);
+            return if too_many { NEVER } else { least };
         }
         let mut bounds = Bounds {
             no: 0,
