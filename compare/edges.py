@@ -245,7 +245,7 @@ def little_memory(process: Process) -> Iterator[Edge]:
               (["bench", "200", "--plan", "pebble"], b"")]
     for words, large in larges:
         answers, none = [process.run(words, large)], (11, b"", b"revc: out of memory\n")
-        for size in range(4_000_000, 40_000_000, 1_500_000):
+        for size in range(5_500_000, 40_000_000, 1_500_000):
             answers.append(process.run(words, large, **limited(size)))
         yield words[0] + " in little memory wants memory, or answers", set(answers) == {answers[0], none}
     done = process.run(["stat"], LEAST.encode() + b"#".ljust(MOST_CIRCUIT // 2), **limited(LITTLE))
