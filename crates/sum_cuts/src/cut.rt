@@ -186,7 +186,7 @@ fn variable(sums: &[Form], place: usize) -> Result<Function, Memory>
 }
 
 // Whether two forms are the same sum.
-fn is_same(left: &Form, right: &Form) -> bool
+pub fn is_same(left: &Form, right: &Form) -> bool
     ensures { result ≡ true → left.now ≡ right.now }
 {
     left.one() == right.one() && left.is_alike(right)

@@ -8,9 +8,11 @@ ghost use Rattle.sum_cuts.specs.Cuts.{CutsDecide};
 
 mod cut;
 mod table;
+mod wide;
 
 pub use cut::{Cut, Function, MOST_SUMS};
 pub use table::Table;
+pub use wide::{Judgement, MOST_WIDE, Step, Steps, judge};
 
 /// Over one cut, equal functions make equal sums. The function does nothing: its contract is the
 /// law.
