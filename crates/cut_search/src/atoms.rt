@@ -47,6 +47,11 @@ impl Atoms {
         self.program = self.count();
     }
 
+    /// Whether the program is being read.
+    pub fn reads_program(&self) -> bool {
+        self.program == usize::MAX
+    }
+
     pub fn is_programs(&self, atom: u32) -> bool {
         (atom as usize) < self.program
     }
@@ -156,6 +161,13 @@ pub fn has_atom(form: &Form, atom: u32) -> bool {
             .is_some_and(|term| (term.word >> (atom % 64)) & 1 == 1),
         Err(_) => false,
     }
+}
+
+/// The last atom of a form.
+pub fn last_atom(form: &Form) -> Option<u32> {
+    let term = form.terms().last()?;
+    let last = 63_u32.saturating_sub(term.word.leading_zeros());
+    Some(term.place.wrapping_mul(64).wrapping_add(last))
 }
 
 /// The mark of a form.

@@ -1,11 +1,12 @@
 // What is looked up of a cut and its functions. No answer rests on it.
-use crate::atoms::{Scene, atoms_of, has_atom};
-use crate::basis::{Basis, add_to};
+use crate::atoms::Scene;
+use crate::basis::Basis;
+use crate::reader::Reader;
 use crate::vectors::{MOST_BITS, Space, Vector};
 use crate::walk::{MOST_INSIDE, Place};
 use linear_forms::Form;
 use plan_tools::{Work, number};
-use std::collections::{HashMap, HashSet};
+use std::collections::HashSet;
 use std::mem;
 use sum_cuts::{Cut, Table};
 
@@ -42,10 +43,7 @@ pub struct Member {
 pub struct Guide {
     /// The words of a table that tell all rows of the cut.
     words: usize,
-    /// The leads of the cut's sums, which are functions 1, 2, ..
-    leads: Vec<u32>,
-    /// The function of each atom that is one.
-    places: HashMap<u32, usize>,
+    reader: Reader,
     /// The marks of the sums that functions of the cut are.
     space: Space,
     rows: Vec<Reduced>,
@@ -60,14 +58,9 @@ pub struct Guide {
 impl Guide {
     /// That of a cut of these sums.
     pub fn new(work: &mut Work, cut: &Cut, basis: &Basis, place: &Place) -> Guide {
-        let mut leads = Vec::new(work.alloc);
-        for lead in &basis.leads {
-            work.push(&mut leads, lead.atom);
-        }
         let mut guide = Guide {
-            words: words_of(leads.len()),
-            leads,
-            places: HashMap::new(work.alloc),
+            words: words_of(basis.leads.len()),
+            reader: Reader::new(work, basis),
             space: place.space.copy(work),
             rows: Vec::new(work.alloc),
             relations: Vec::new(work.alloc),
@@ -119,36 +112,13 @@ impl Guide {
 
     /// The functions whose sum may be a form: the short ones first.
     pub fn reading(&self, work: &mut Work, cut: &Cut, form: &Form) -> Option<Vec<usize>> {
-        let mut rest = work.note(form.copy())?;
-        let mut sums = Vec::new(work.alloc);
-        for (k, lead) in self.leads.iter().enumerate() {
-            if has_atom(&rest, *lead) {
-                add_to(work, &mut rest, cut.sums.get(k)?);
-                work.push(&mut sums, k.saturating_add(1));
-            }
-        }
-        let mut places = self.places_in(work, &rest)?;
-        work.append(&mut places, &sums);
-        Some(places)
-    }
-
-    // The functions that the atoms of a form and its constant are, where all are some.
-    fn places_in(&self, work: &mut Work, form: &Form) -> Option<Vec<usize>> {
-        let mut places = Vec::new(work.alloc);
-        if form.one() {
-            work.push(&mut places, 0);
-        }
-        let atoms = atoms_of(work, form);
-        for atom in &atoms {
-            work.push(&mut places, *self.places.get(atom)?);
-        }
-        Some(places)
+        self.reader.reading(work, &cut.sums, form)
     }
 
     /// The function at a place is this atom. Where it is a sum of others, it may be left out.
     pub fn enter(&mut self, work: &mut Work, member: Member, at: usize, table: &Table) {
         let atom = member.atom;
-        work.note(self.places.insert(atom, at));
+        self.reader.put(work, atom, at);
         self.space.add(work, &Vector::mark(atom));
         self.grown = self.grown.saturating_add(1);
         if member.is_gone {
@@ -159,11 +129,6 @@ impl Guide {
         }
     }
 
-    // Whether an atom is a function, or stands for a sum of the cut.
-    fn is_known(&self, atom: u32) -> bool {
-        self.places.contains_key(&atom) || self.leads.contains(&atom)
-    }
-
     /// The relations that were found.
     pub fn fetch(&mut self, work: &Work) -> Vec<Relation> {
         work.take(&mut self.relations)
@@ -171,7 +136,7 @@ impl Guide {
 
     /// Whether no further function is taken in.
     pub fn is_full(&self) -> bool {
-        self.places.len() >= MOST_INSIDE || self.space.rank().saturating_add(64) > MOST_BITS
+        self.reader.places.len() >= MOST_INSIDE || self.space.rank().saturating_add(64) > MOST_BITS
     }
 
     /// Whether an atom's factors have marks in the space.
@@ -201,7 +166,7 @@ impl Guide {
     }
 
     fn take(&mut self, work: &mut Work, found: &mut Found, atom: u32) {
-        if !self.is_known(atom) {
+        if !self.reader.has(atom) {
             self.space.add(work, &Vector::mark(atom));
             found.put(work, atom);
         }
@@ -216,7 +181,7 @@ impl Guide {
     }
 
     fn take_all_users(&mut self, work: &mut Work, scene: Scene, found: &mut Found) {
-        let leads = work.copy(&self.leads);
+        let leads = work.copy(&self.reader.leads);
         for lead in &leads {
             self.take_users(work, scene, found, *lead);
         }

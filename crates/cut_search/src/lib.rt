@@ -4,16 +4,16 @@
 
 mod atoms;
 mod basis;
-mod gone;
 mod guide;
 mod places;
+mod reader;
 mod vectors;
 mod walk;
 
-pub use atoms::{Atoms, Made, Scene, has_atom};
+pub use atoms::{Atoms, Made, Scene, atoms_of, has_atom, last_atom, mark_of};
 pub use basis::{Basis, Lead};
-pub use gone::Gone;
 pub use guide::{Guide, Member, Relation, members};
 pub use places::{FAR, NEAR, Range, places_of};
+pub use reader::Reader;
 pub use vectors::Vector;
-pub use walk::Place;
+pub use walk::{MOST_INSIDE, MOST_LEFT, Opening, Place, Walk};

@@ -19,6 +19,14 @@ impl Vector {
         Vector { words: [0; WORDS] }
     }
 
+    /// The same bit everywhere.
+    pub fn all(bit: bool) -> Vector {
+        let word = if bit { u64::MAX } else { 0 };
+        Vector {
+            words: [word; WORDS],
+        }
+    }
+
     /// The bit at a place alone; none past the last one.
     pub fn unit(place: usize) -> Vector {
         let mut words = [0; WORDS];
@@ -39,12 +47,45 @@ impl Vector {
         Vector { words }
     }
 
+    /// Values of an input in 512 columns: random, mostly 0, mostly 1, and mostly one bit or another
+    /// of the input's number, by which the places of one register hold other bits than those of
+    /// the next.
+    pub fn column(input: u32) -> Vector {
+        let [one, two, few, r, s, t, u, v] = Vector::mark(input).words;
+        let rare = r & s & t & u & v;
+        let mut words = [one, two, few & r & s, few | s | u, rare, rare, rare, rare];
+        for i in 4..WORDS {
+            if (input >> (i - 1)) & 1 == 1 {
+                words[i] = !words[i].rotate_left(i as u32);
+            }
+        }
+        Vector { words }
+    }
+
     pub fn plus(&self, other: &Vector) -> Vector {
         let mut words = [0; WORDS];
         for i in 0..WORDS {
             words[i] = self.words[i] ^ other.words[i];
         }
         Vector { words }
+    }
+
+    /// The bits of both.
+    pub fn times(&self, other: &Vector) -> Vector {
+        let mut words = [0; WORDS];
+        for i in 0..WORDS {
+            words[i] = self.words[i] & other.words[i];
+        }
+        Vector { words }
+    }
+
+    /// A number that tells vectors apart.
+    pub fn key(&self) -> u64 {
+        let mut key = 0;
+        for word in &self.words {
+            key = mixed(*word ^ key);
+        }
+        key
     }
 
     /// The place of the first bit.

@@ -5,9 +5,13 @@ ghost use Rattle.sum_cuts.specs.Cuts.{AreOverCut, IsZero};
 ghost use Rattle.cut_sweeping.specs.inside.Cuts.{HoldsCuts};
 ghost use Rattle.cut_sweeping.specs.inside.Regions.{AreRegions};
 
+use crate::gone::Gone;
+use crate::met::Met;
+use crate::reach::Reach;
 use crate::regions::{Region, begun, is_zero_over, join_all, product_over, take_out};
+use crate::wide::{Effort, ON_THE_WAY, is_zero_widely};
 use crate::zeros::Zeros;
-use cut_search::{Atoms, Basis, FAR, Gone, Guide, Member, NEAR, Place, Range, Scene, places_of};
+use cut_search::{Atoms, Basis, Guide, Member, NEAR, Place, Range, Scene, places_of};
 use linear_forms::Form;
 use plan_tools::{Stop, Work};
 use product_sums::Products;
@@ -32,21 +36,24 @@ pub struct Cuts {
     pub work: Work,
     pub regions: Vec<Region>,
     pub zeros: Zeros,
+    met: Met,
     functions: usize,
 }
 
 impl Cuts {
-    /// No cut, where so many atoms are given. The search may take so many units.
-    pub fn new(alloc: Global, given: u32, most: u64) -> Cuts
+    /// No cut, where so many atoms are given.
+    pub fn new(alloc: Global, given: u32, reach: Reach) -> Cuts
         ensures { (t : ProductsView) → HoldsCuts t result }
     {
-        let mut work = Work::new(alloc, most);
+        let mut work = Work::new(alloc, reach.work());
         let atoms = Atoms::new(&mut work, given);
+        let met = Met::new(&mut work, given, reach);
         Cuts {
             atoms,
             work,
             regions: Vec::new(alloc),
             zeros: Zeros::new(alloc),
+            met,
             functions: 0,
         }
     }
@@ -65,6 +72,7 @@ impl Cuts {
         self.work.spend(atoms_in(&known.first));
         self.work.spend(atoms_in(&known.second));
         self.atoms.note(&mut self.work, place, known);
+        self.met.note(&mut self.work, &self.atoms, known);
     }
 
     /// The product of two sums, where a narrow cut tells it.
@@ -115,20 +123,26 @@ impl Cuts {
         Ok(sum)
     }
 
-    /// Whether a sum is 0, as a narrow cut tells.
-    pub fn is_zero(&mut self, products: &Products, sum: &Form) -> Result<bool, Memory>
+    /// Whether a sum is 0, as a narrow cut tells, or a wide one.
+    pub fn is_zero(
+        &mut self,
+        products: &Products,
+        sum: &Form,
+        effort: Effort,
+    ) -> Result<bool, Memory>
         requires { HoldsCuts products.now self.old }
         ensures cuts { HoldsCuts products.now self.new }
         ensures zero { IfOk result (λ is. is ≡ true → IsZero products.now sum.now) }
     {
-        let places = tried(&mut self.work, products, &self.atoms, &[sum], FAR);
+        let places = tried(&mut self.work, products, &self.atoms, &[sum], effort.range);
         for place in places.iter().rev() {
             if self.is_zero_at(products, place, sum)? {
                 return Ok(true);
             }
         }
+        let is = is_zero_widely(&mut self.work, products, &self.atoms, sum, effort)?;
         self.refused()?;
-        Ok(false)
+        Ok(is)
     }
 
     fn is_zero_at(&mut self, products: &Products, place: &Place, sum: &Form) -> Result<bool, Memory>
@@ -142,6 +156,26 @@ impl Cuts {
         let is = is_zero_over(&mut self.work, &region, sum)?;
         self.keep(region)?;
         Ok(is)
+    }
+
+    /// A sum was met. Where it has the values of 0 or of a sum of the program in some columns, and
+    /// a cut tells that it is that, an atom of it is left out of later sums.
+    pub fn meet(&mut self, products: &Products, sum: &Form) -> Result<(), Memory>
+        requires { HoldsCuts products.now self.old }
+        ensures { HoldsCuts products.now self.new }
+    {
+        let Some(zero) = self.met.meet(&mut self.work, &self.atoms, sum) else {
+            return Ok(());
+        };
+        let before = self.work.spent();
+        let zero = self.zeros.normal(&zero)?;
+        let is = self.is_zero(products, &zero, ON_THE_WAY)?;
+        let spent = self.work.spent().saturating_sub(before);
+        self.met.count(is, spent);
+        if !is {
+            return Ok(());
+        }
+        self.zeros.keep(&mut self.work, zero)
     }
 
     /// Want of memory, where the search met that.

@@ -6,8 +6,14 @@
 #![tactic(auto)]
 
 mod cuts;
+mod descent;
+mod gone;
+mod met;
+mod reach;
 mod regions;
 mod sweep;
+mod wide;
 mod zeros;
 
-pub use sweep::{Reach, Sweep};
+pub use reach::Reach;
+pub use sweep::Sweep;

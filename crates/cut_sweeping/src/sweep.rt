@@ -7,21 +7,12 @@ ghost use Rattle.sum_cuts.specs.Cuts.{AreEqualSums};
 ghost use Rattle.cut_sweeping.specs.inside.Cuts.{HoldsCuts};
 
 use crate::cuts::Cuts;
+use crate::reach::Reach;
+use crate::wide::at_the_end;
 use linear_forms::Form;
 use product_sums::{Products, ProductsFault};
 use std::alloc::Global;
 use std::marker::Model;
-
-/// The most units of the search for cuts: a unit is a vector of 512 bits that is read, or a few
-/// words of a sum.
-const MOST_WORK: u64 = 1 << 29;
-
-/// Whether cuts are looked for.
-#[derive(Clone, Copy, PartialEq, Eq)]
-pub enum Reach {
-    Products,
-    Cuts,
-}
 
 /// The table of products of exclusive sums, where a product that is not derived may be told by a
 /// cut. Contracts see which atoms stand for no product, and which product each other atom stands
@@ -46,13 +37,9 @@ impl Sweep {
     pub fn new(alloc: Global, given: u32, reach: Reach) -> Sweep
         ensures { result ≡ record { given = given; made = [] } }
     {
-        let work = match reach {
-            Reach::Products => 0,
-            Reach::Cuts => MOST_WORK,
-        };
         Sweep {
             products: Products::new(alloc, given),
-            cuts: Cuts::new(alloc, given, work),
+            cuts: Cuts::new(alloc, given, reach),
             reach,
         }
     }
@@ -80,7 +67,8 @@ impl Sweep {
         self.products.let_go(words);
     }
 
-    /// The sum of both, in time linear in both.
+    /// The sum of both, in time linear in both. Where it may be 0 or a sum of the program, cuts are
+    /// asked.
     ///
     /// # Errors
     /// `Limit` where the steps or the words held pass their limit, and `Memory`.
@@ -88,7 +76,26 @@ impl Sweep {
         ensures sum { IfOk result (IsSum first.now second.now) }
         ensures same { self.new ≡ self.old }
     {
+        let sum = self.added(first, second)?;
+        self.meet(&sum)?;
+        Ok(sum)
+    }
+
+    fn added(&mut self, first: &Form, second: &Form) -> Result<Form, ProductsFault>
+        ensures sum { IfOk result (IsSum first.now second.now) }
+        ensures same { self.new ≡ self.old }
+    {
         self.products.sum(first, second)
+    }
+
+    // Looks at a sum that was made.
+    fn meet(&mut self, sum: &Form) -> Result<(), ProductsFault>
+        ensures { self.new ≡ self.old }
+    {
+        if self.reach.has_wide() && !self.is_spent() {
+            self.cuts.meet(&self.products, sum)?;
+        }
+        Ok(())
     }
 
     /// The product of both: known, or the sum of known products, or told by a cut, or an atom of
@@ -122,7 +129,7 @@ impl Sweep {
 
     // Whether the search for cuts has spent its work.
     fn is_spent(&self) -> bool {
-        self.reach == Reach::Cuts && self.cuts.work.is_stopped()
+        self.reach != Reach::Products && self.cuts.work.is_stopped()
     }
 
     fn normal_product(&mut self, first: &Form, second: &Form) -> Result<Form, ProductsFault>
@@ -168,7 +175,10 @@ impl Sweep {
         if let Some(one) = sum.as_constant() {
             return Ok(!one);
         }
-        Ok(self.cuts.is_zero(&self.products, &sum)?)
+        Ok(
+            self.cuts
+                .is_zero(&self.products, &sum, at_the_end(self.reach))?,
+        )
     }
 
     /// Whatever the atoms are that stand for no product, all atoms have values. The function does

@@ -4,7 +4,8 @@ ghost use Rattle.product_sums.specs.Products.{ProductsView};
 ghost use Rattle.sum_cuts.specs.Cuts.{AreEqualSums, AreOverCut, IsZero};
 ghost use Rattle.cut_sweeping.specs.inside.Zeros.{AreZeros};
 
-use cut_search::{Gone, Relation, has_atom, members};
+use crate::gone::Gone;
+use cut_search::{Relation, has_atom, last_atom, members};
 use linear_forms::Form;
 use plan_tools::Work;
 use revc_base::Memory;
@@ -76,10 +77,28 @@ impl Zeros {
         ensures { (t : ProductsView) → AreOverCut t cut.now → AreZeros t self.old
             → AreZeros t self.new }
     {
-        let atom = relation.atom;
-        let Some(zero) = self.zero(work, cut, relation)? else {
-            return Ok(());
-        };
+        match self.zero(work, cut, relation)? {
+            Some(zero) => self.put(work, relation.atom, zero),
+            None => Ok(()),
+        }
+    }
+
+    /// Takes in a sum that is 0, for which its last atom is left out of others.
+    pub fn keep(&mut self, work: &mut Work, zero: Form) -> Result<(), Memory>
+        ensures { (t : ProductsView) → IsZero t zero → AreZeros t self.old
+            → AreZeros t self.new }
+    {
+        match last_atom(&zero) {
+            Some(atom) => self.put(work, atom, zero),
+            None => Ok(()),
+        }
+    }
+
+    // Takes in a sum that is 0, for which an atom is left out of others, if it has that.
+    fn put(&mut self, work: &mut Work, atom: u32, zero: Form) -> Result<(), Memory>
+        ensures { (t : ProductsView) → IsZero t zero → AreZeros t self.old
+            → AreZeros t self.new }
+    {
         if self.gone.has(atom) || !has_atom(&zero, atom) {
             return Ok(());
         }
