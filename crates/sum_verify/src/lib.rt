@@ -16,4 +16,4 @@ mod verifying;
 mod walking;
 
 pub use fault::SumsFault;
-pub use verifying::{Unsettled, verify, verify_by_cuts};
+pub use verifying::{Unsettled, verify, verify_by_cuts, verify_by_wide_cuts};

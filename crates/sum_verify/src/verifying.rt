@@ -17,8 +17,8 @@ use std::alloc::Global;
 use std::marker::Model;
 use sum_graph::SumGraph;
 
-/// A comparison that sums leave unsettled. [`verify`] and [`verify_by_cuts`] alone make one, so who
-/// has one asked them of this very comparison.
+/// A comparison that sums leave unsettled. [`verify`], [`verify_by_cuts`] and
+/// [`verify_by_wide_cuts`] alone make one, so who has one asked them of this very comparison.
 #[derive(Drop)]
 pub struct Unsettled<'s> {
     compared: Compared<'s>,
@@ -74,6 +74,19 @@ pub fn verify_by_cuts(alloc: Global, left: Unsettled<'_>) -> Result<(), SumsFaul
     verify_within(alloc, left.compared, Reach::Cuts)
 }
 
+/// The same with wide cuts too, and sums that are looked at as they are met. Where narrow cuts do
+/// not settle it.
+///
+/// # Errors
+///
+/// As for [`verify`].
+pub fn verify_by_wide_cuts(alloc: Global, left: Unsettled<'_>) -> Result<(), SumsFault<'_>>
+    ensures verified { OnOk result (IsVerified (comparison left.entry)) }
+    ensures unsettled { IfErr result (IsSumsFault left.entry) }
+{
+    verify_within(alloc, left.compared, Reach::WideCuts)
+}
+
 fn verify_within(alloc: Global, compared: Compared<'_>, reach: Reach) -> Result<(), SumsFault<'_>>
     ensures verified { OnOk result (IsVerified (comparison compared.entry)) }
     ensures unsettled { IfErr result (IsSumsFault compared.entry) }
@@ -86,14 +99,14 @@ fn verify_within(alloc: Global, compared: Compared<'_>, reach: Reach) -> Result<
     }
 }
 
-// The circuit is verified, where the forms of its lines tell: cuts are asked behind a graph with
-// fewer products.
+// The circuit is verified, where the forms of its lines tell: narrow cuts are asked behind a graph
+// with fewer products.
 fn verify_by_reach(alloc: Global, compared: &Compared, reach: Reach) -> Result<(), FormsFault>
     ensures { OnOk result (IsVerified (comparison compared.now)) }
 {
     match reach {
-        Reach::Products => verify_forms(alloc, compared, Reach::Products, None),
         Reach::Cuts => verify_further(alloc, compared),
+        reach => verify_forms(alloc, compared, reach, None),
     }
 }
 

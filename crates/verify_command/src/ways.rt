@@ -9,7 +9,9 @@ ghost use Rattle.verify_command.specs.inside.Ways.{IsUnverified};
 use circuit_verify::{Compared, VerifyFault, verify as by_diagrams};
 use revc_words::{Order, Way};
 use std::alloc::Global;
-use sum_verify::{SumsFault, Unsettled, verify as by_products, verify_by_cuts};
+use sum_verify::{
+    SumsFault, Unsettled, verify as by_products, verify_by_cuts, verify_by_wide_cuts,
+};
 
 /// The nodes of the diagrams that are asked before cuts.
 const FEW_NODES: u32 = 1 << 15;
@@ -51,20 +53,32 @@ pub fn compare_by_way<'s>(
     }
 }
 
-// Compares the two by sums: of products alone, and where these leave them unsettled, with cuts.
+// Compares the two by sums: of products alone, with narrow cuts, and with wide ones, each where
+// those before leave them unsettled.
 fn by_sums(alloc: Global, compared: Compared<'_>) -> Result<(), SumsFault<'_>>
     ensures verified { OnOk result (IsVerified (comparison compared.entry)) }
     ensures unsettled { IfErr result (IsSumsFault compared.entry) }
 {
     match by_products(alloc, compared) {
         Ok(()) => Ok(()),
-        Err(SumsFault::Unsettled(left)) => verify_by_cuts(alloc, left),
+        Err(SumsFault::Unsettled(left)) => by_cuts(alloc, left),
         Err(fault) => Err(fault),
     }
 }
 
-// Compares the two by sums of products, by diagrams of few nodes, by sums with cuts, and by
-// diagrams: each where those before leave them unsettled.
+fn by_cuts(alloc: Global, left: Unsettled<'_>) -> Result<(), SumsFault<'_>>
+    ensures verified { OnOk result (IsVerified (comparison left.entry)) }
+    ensures unsettled { IfErr result (IsSumsFault left.entry) }
+{
+    match verify_by_cuts(alloc, left) {
+        Ok(()) => Ok(()),
+        Err(SumsFault::Unsettled(left)) => verify_by_wide_cuts(alloc, left),
+        Err(fault) => Err(fault),
+    }
+}
+
+// Compares the two by sums of products, by diagrams of few nodes, by sums with narrow cuts, by
+// diagrams, and by sums with wide cuts: each where those before leave them unsettled.
 fn by_both(alloc: Global, compared: Compared<'_>, nodes: u32) -> Result<(), Unverified<'_>>
     requires { 1 ≤ nodes }
     ensures verified { OnOk result (IsVerified (comparison compared.entry)) }
@@ -114,6 +128,18 @@ fn behind_cuts(alloc: Global, left: Unsettled<'_>, nodes: u32) -> Result<(), Unv
 {
     match by_diagrams(alloc, left.compared(), nodes) {
         Ok(()) => Ok(()),
-        Err(fault) => Err(Unverified::Both(left, fault)),
+        Err(VerifyFault::Diagram { nodes }) => match verify_by_wide_cuts(alloc, left) {
+            Ok(()) => Ok(()),
+            Err(SumsFault::Unsettled(left)) => {
+                Err(Unverified::Both(left, VerifyFault::Diagram { nodes }))
+            }
+            Err(fault) => Err(Unverified::Sums(fault)),
+        },
+        Err(VerifyFault::Differs { line, bits }) => {
+            Err(Unverified::Both(left, VerifyFault::Differs { line, bits }))
+        }
+        Err(VerifyFault::Memory(memory)) => {
+            Err(Unverified::Both(left, VerifyFault::Memory(memory)))
+        }
     }
 }
