@@ -140,7 +140,7 @@ def folders(process: Process) -> Iterator[Edge]:
 def endless_sources(process: Process) -> Iterator[Edge]:
     """A source without an end, and how much is read of a long one: one byte past the limit."""
     for words, _ in process.reading:
-        is_program = words[0] in ("compile", "check", "eval")
+        is_program = words[0] in ("compile", "check", "ands", "eval")
         most = MOST_PROGRAM if is_program else MOST_TOGETHER if words[0] == "verify" else MOST_CIRCUIT
         fault = (3, b"source over 1048576 bytes") if is_program else (8, b"circuit over 134217728 bytes")
         with opened("/dev/zero") as endless:

@@ -37,12 +37,12 @@ def is_sound(words: List[str], text: bytes, answer: Answer) -> bool:
         return is_verdict(order, text, answer)
     if order is not None and order.command == "arith" and order.values["write"] != "program":
         return answer.status != 0 or is_arithmetic(order, answer.out)
-    if order is None or order.command not in ("compile", "check"):
+    if order is None or order.command not in ("compile", "check", "ands"):
         return True
     if answer.status == 4:
         bits = answer.err.split()[-1].decode()
         return answer_of(["eval", bits], text) == answer
-    if order.command == "check":
+    if order.command in ("check", "ands"):
         return True
     if order.values["outputs"]:
         return answer.status != 0 or is_placed(order, program_of(text), answer.out)

@@ -23,14 +23,15 @@ VALUES = {  # of each option, the first three of which are taken
     "for": ["gates", "depth", "order", "Depth", "order ", "", "=depth", "gate", "toffoli", "--", "-"],
 }
 OPTIONS = {"compile": ["nodes", "plan", "plan", "lines", "gates", "borrow", "format", "assume", "outputs"],
-           "check": ["nodes", "assume"], "convert": ["from", "to"], "tidy": ["from", "to", "for"],
+           "check": ["nodes", "assume"], "ands": ["nodes", "assume"],
+           "convert": ["from", "to"], "tidy": ["from", "to", "for"],
            "verify": ["from", "nodes", "borrow", "outputs", "assume"],
            "arith": ["by", "write"],
            "bench": ["nodes", "plan", "plan", "lines", "gates", "borrow"]}
 SIZES = ["1", "2", "3", "02", "0000002", "200", "201", "0", "-1", "+1", "00000002", "", "x", "2.0", "--", "-"]
 POSITIONAL = ["11", "10", "01", "00", "1", "0", "", "-", "x", "2", "110", "real", "compile", "\u00e9", "1\n"]
 KINDS = ["add", "sub", "less", "inc", "mul", "mul", "mul", "Add", "", "add ", "3", "-"]
-COMMANDS = ["compile", "check", "eval", "stat", "run", "convert", "verify", "tidy", "gen", "bench", "arith"]
+COMMANDS = ["compile", "check", "ands", "eval", "stat", "run", "convert", "verify", "tidy", "gen", "bench", "arith"]
 NUMBERED = ["gen", "bench"]
 OTHERS = ["Compile", "", "-", "--", "Convert", "gen2", "Verify", "--nodes", "check ", "--help", "help"]
 

@@ -16,6 +16,7 @@ class Call(NamedTuple):
 CALLS: Dict[str, Call] = {
     "compile": Call(["compile"], AND),
     "check": Call(["check"], AND),
+    "ands": Call(["ands"], AND),
     "eval": Call(["eval", "11"], AND),
     "stat": Call(["stat"], FILE.encode()),
     "run": Call(["run", "11"], FILE.encode()),

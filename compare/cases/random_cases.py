@@ -147,6 +147,11 @@ class Check(OnPrograms):
     kinds = {"claimed": 78, "typed": 12, "loose": 4, "unclaimed": 2, "plain": 1, "deep": 1, "wide": 1, "limit": 1}
 
 
+class Ands(OnPrograms):
+    name = "ands"
+    kinds = {"typed": 60, "plain": 15, "claimed": 10, "loose": 5, "unclaimed": 5, "deep": 2, "wide": 2, "limit": 1}
+
+
 class Eval(OnPrograms):
     name = "eval"
     kinds = {"typed": 60, "claimed": 20, "loose": 9, "plain": 5, "deep": 2, "long": 1, "wide": 1, "limit": 1}
@@ -365,4 +370,5 @@ class Words:
         return Case(words, texts.get("".join(words[:1]), FIVE).encode())
 
 
-COMPARED = [Compile, Lean, Compact, Shallow, InPlace, Check, Eval, Loops, Stat, Run, Convert, Tidy, Verify, Bench, Arith, Words]
+COMPARED = [Compile, Lean, Compact, Shallow, InPlace, Check, Ands, Eval, Loops, Stat, Run, Convert, Tidy, Verify, Bench,
+            Arith, Words]

@@ -1,4 +1,5 @@
 """What each command answers for a text, by the models: docs/COMMANDS.md as functions."""
+import re
 from typing import Callable, List, NamedTuple, Optional, Tuple
 
 from models import circuits, language, qasm, real
@@ -123,6 +124,13 @@ def compile_text(order: Order, text: bytes) -> bytes:
 
 def check_text(order: Order, text: bytes) -> bytes:
     return lines(["claims %d" % len(settled_run(order, run_on_zeros(text)).claims)])
+
+
+def ands_text(order: Order, text: bytes) -> bytes:
+    """The counts of the ANDs. All are enough; the program may say that fewer are."""
+    run = settled_run(order, run_on_zeros(text))
+    count = sum(write.operator == "&&" for write in run.writes)
+    return lines(["ands %d" % count, "left %d" % count, "depth %d" % Graph(run).and_depth])
 
 
 def eval_text(order: Order, text: bytes) -> bytes:
@@ -282,7 +290,8 @@ def arith_text(order: Order, text: bytes) -> bytes:
     return program if form == "program" else compile_text(order_of(["compile", "--format", form]), program)
 
 
-TEXTS = {"compile": compile_text, "check": check_text, "eval": eval_text, "stat": stat_text, "run": run_text,
+TEXTS = {"compile": compile_text, "check": check_text, "ands": ands_text, "eval": eval_text,
+         "stat": stat_text, "run": run_text,
          "convert": convert_text, "tidy": tidy_text, "verify": verify_text, "gen": gen_text, "bench": bench_text,
          "arith": arith_text}
 
@@ -307,10 +316,21 @@ def answer_of(words: List[str], text: bytes) -> Answer:
     return answered(lambda: TEXTS[order.command](order, text))
 
 
+def is_of_fewer(model: Answer, answer: Answer) -> bool:
+    """Whether an answer has the counts of the model, but for fewer ANDs that are enough."""
+    counts = [re.fullmatch(rb"(ands \d+\n)left (\d+)\n(depth \d+\n)", each.out) for each in (model, answer)]
+    if answer.status or answer.err or None in counts:
+        return False
+    (ands, most, depth), (same, left, deep) = [each.groups() for each in counts]
+    return (ands, depth) == (same, deep) and int(left) <= int(most)
+
+
 def is_free(words: List[str], source: bytes, answer: Answer) -> bool:
     """Whether an answer is allowed that is not the model's: `verify` may say that a circuit passes its limit on nodes
-    where its functions do, and need not; and that sums do not settle one that agrees."""
+    where its functions do, and need not, and that sums do not settle one that agrees; `ands`, that fewer are enough."""
     order = order_of(words)
+    if order is not None and order.command == "ands":
+        return is_of_fewer(answer_of(words, source), answer)
     if order is None or order.command != "verify":
         return False
     passed, verdicts = Fault(5, "circuit passes %d nodes" % order.values["nodes"]).answer, []

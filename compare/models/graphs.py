@@ -42,6 +42,15 @@ class Graph:
         self.nodes = [Node(node.operator, tuple(new.get(each, each) for each in node.operands)) for node in nodes]
         self.outputs = [new.get(output, output) for output in self.outputs]
 
+    @property
+    def and_depth(self) -> int:
+        """The most ANDs on a path."""
+        levels: Dict[str, int] = {}
+        for number, node in enumerate(self.nodes):
+            below = max(levels.get(operand, 0) for operand in node.operands)
+            levels["w%d" % number] = below + (node.operator == "&&")
+        return max(levels.values(), default=0)
+
     def fold(self, write: Write, operands: List[Folded]) -> Folded:
         if not operands:
             return int(write.operator)

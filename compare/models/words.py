@@ -60,6 +60,7 @@ ARITH = {"by": number(0, 1, 9_999), "write": choice("program", "real", "qasm")}
 COMMANDS = {
     "compile": ({**NODES, **ASSUMED, **PLANNED, **PLACED}, 0, 0),
     "check": ({**NODES, **ASSUMED}, 0, 0),
+    "ands": ({**NODES, **ASSUMED}, 0, 0),
     "eval": ({}, 1, 1),
     "stat": (FROM, 0, 0),
     "run": (FROM, 1, None),

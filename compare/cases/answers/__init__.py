@@ -1,8 +1,8 @@
 """Rows whose answers were worked out by hand, byte for byte."""
 from typing import List
 
-from . import adders, arith, circuits, claims, compiled, converted, evaluated, lean, loops, planned, refused, tidied
-from . import tokens, verified, words
+from . import adders, arith, circuits, claims, compiled, converted, counted, evaluated, lean, loops, planned, refused
+from . import tidied, tokens, verified, words
 from .texts import Row
 
 ANSWERS: List[Row] = [
@@ -12,6 +12,7 @@ ANSWERS: List[Row] = [
     *claims.CASES, *claims.ASSUMED, *claims.FURTHER_CASES, *claims.LIMIT_CASES,
     *compiled.COMPILED, *compiled.REFUSED, *compiled.COMPILED_LONG,
     *converted.CASES, *converted.SIZES,
+    *counted.COUNTED,
     *evaluated.WORDS, *evaluated.CLAIMS, *evaluated.ALIASES, *evaluated.FUNCTIONS, *evaluated.NEARER,
     *evaluated.REGISTERS, *evaluated.STUCK, *evaluated.LONG_VALUES,
     *lean.CASES,

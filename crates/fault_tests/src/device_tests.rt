@@ -15,6 +15,7 @@ const CALLS: &[(&str, &[u8])] = &[
     ("compile", PRODUCT),
     ("compile --format qasm", PRODUCT),
     ("check", PRODUCT),
+    ("ands", PRODUCT),
     ("eval 11", PRODUCT),
     ("stat", PRODUCT_FILE),
     ("run 11 10", PRODUCT_FILE),

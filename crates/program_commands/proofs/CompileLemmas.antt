@@ -1,11 +1,11 @@
 -- A circuit beside the inputs is compiled for a text, or there is one exact cause why it is not.
-use Rattle.std.proofs.Common.{◌≡◌, ℕ, List, [], ◌∷◌, inl, refl, sym, subst, arith}
+use Rattle.std.proofs.Common.{◌≡◌, ℕ, List, [], ◌∷◌, refl, sym, subst, arith}
 use Rattle.claim_check.specs.Measures.{AreMeasuresOf}
 use Rattle.revs_tape.specs.Tapes.{TapeView}
 use Rattle.command_answers.specs.declared.fault.Fault.{Fault}
 use Rattle.command_answers.specs.declared.fault.Fault.TheVariants as faults
 use Rattle.revc_words.specs.Words.{OrderView}
-use Rattle.command_answers.specs.Outcomes.{HasOneOutcome, IsFaultOfText, IsNoBudget}
+use Rattle.command_answers.specs.Outcomes.{IsFaultOfText, IsNoBudget}
 use Rattle.program_commands.specs.Compile.{HasFittingRow, IsCause, KeepsBudget, PassesBudget, PassesGates, PassesLines}
 use Rattle.program_commands.specs.Outcomes.{IsBudgetFault, IsCompileFault}
 use Rattle.program_texts.specs.Settling.{LeavesSettled}

@@ -1,18 +1,15 @@
 -- A circuit in place that is found is the file of a text, and why there is none.
-use Rattle.std.proofs.Common.{◌≡◌, ℕ, ◌+◌, ◌≤◌, List, Result, Ok, Err, length, refl, sym, ap, ◌∙◌, subst, arith}
-use Rattle.std.specs.Result.{IfErr}
+use Rattle.std.proofs.Common.{ℕ, List, refl, sym, subst, arith}
 use Rattle.circuit_plans.specs.declared.roles.Placing.TheVariants.{InPlace}
 use Rattle.circuit_plans.specs.declared.roles.Roles.{Roles}
-use Rattle.circuit_plans.specs.Plans.{LaidView, lines_in, roles_of}
+use Rattle.circuit_plans.specs.Plans.{LaidView, roles_of}
 use Rattle.command_answers.specs.declared.fault.Fault.{Fault}
 use Rattle.command_answers.specs.declared.fault.Fault.TheVariants as faults
 use Rattle.command_answers.specs.declared.fault.Refusal.TheVariants as refusals
-use Rattle.mct_circuit.specs.Gates.{AreGatesOn}
 use Rattle.program_texts.proofs.CleanLemmas.{clean_circuit}
 use Rattle.program_texts.proofs.FormedLemmas.{some_output}
 use Rattle.program_texts.specs.Clean.{IsCleanCircuit}
 use Rattle.program_texts.specs.Outcomes.{IsSettlingFault, IsTextFault}
-use Rattle.program_texts.specs.Settling.{ForTexts}
 use Rattle.revc_words.specs.Words.{IsWithinLimits, OrderView}
 use Rattle.revs_parser.proofs.OneTextLemmas.{one_formed}
 use Rattle.revs_tape.specs.Tapes.{TapeView}

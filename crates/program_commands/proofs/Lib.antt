@@ -3,6 +3,7 @@ pub mod OrderingLemmas
 pub mod PlanLemmas
 pub mod InPlaceLemmas
 pub mod PlacedLemmas
+pub mod AndsLemmas
 pub mod BenchLemmas
 pub mod ArithTextLemmas
 pub mod ArithCircuitLemmas

@@ -13,8 +13,6 @@ use Rattle.program_texts.proofs.SettlingLemmas.{one_left, one_stop, settled_or_s
 use Rattle.revc_words.specs.Words.{OrderView}
 use Rattle.revs_parser.specs.declared.limits.TheConstants.{MOST_BYTES}
 use Rattle.revs_tape.specs.Measures.{inputs_of, outputs_of}
-use Rattle.revs_tape.specs.Tapes.{TapeView}
-use Rattle.program_commands.specs.Compile as beside
 use Rattle.program_commands.specs.InPlace.{FindsNone, IsCompiledInPlace, LacksOutputs, StopsInPlace}
 use Rattle.program_commands.specs.Outcomes.{IsCompileFault, file_of}
 use Rattle.program_commands.specs.Placed.{Gives, IsCompilingFault, causes_by, gives_by, promise, serves_by}

@@ -5,6 +5,7 @@ pub mod Placed
 pub mod Gen
 pub mod Bench
 pub mod Texts
+pub mod Ands
 pub mod Arith
 pub mod Outcomes
 pub mod inside

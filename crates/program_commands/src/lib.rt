@@ -1,7 +1,8 @@
 //! The commands that make a circuit of a program, `compile` and `bench`, the one that makes a
-//! program, `gen`, and the one that makes either, `arith`.
+//! program, `gen`, the one that makes either, `arith`, and the one that counts ANDs, `ands`.
 #![tactic(auto)]
 
+pub mod ands;
 pub mod arith;
 pub mod bench;
 pub mod compile;

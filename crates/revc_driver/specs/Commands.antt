@@ -9,6 +9,7 @@ use Rattle.revc_words.specs.Words.{OrderView}
 use Rattle.program_commands.specs.Placed as compile
 use Rattle.program_texts.specs.Check as check
 use Rattle.program_texts.specs.Eval as eval
+use Rattle.program_commands.specs.Ands as ands
 use Rattle.program_commands.specs.Gen as gen
 use Rattle.program_commands.specs.Bench as bench
 use Rattle.circuit_commands.specs.Stat as stat
@@ -21,6 +22,7 @@ use Rattle.program_commands.specs.Arith as arith
 abbrev pub promise_of : Command → Promise
 promise_of commands.Compile = compile.promise
 promise_of commands.Check = check.promise
+promise_of commands.Ands = ands.promise
 promise_of commands.Eval = eval.promise
 promise_of commands.Stat = stat.promise
 promise_of commands.Run = run.promise

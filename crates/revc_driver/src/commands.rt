@@ -17,9 +17,10 @@ use circuit_plans::Laid;
 use command_answers::{
     CircuitRefusal, Fault, Refusal, TextLimit, write_digits, write_lines, write_number,
 };
+use program_commands::ands::AndCounts;
 use program_commands::arith::Made;
 use program_commands::bench::BenchSizes;
-use program_commands::{arith, bench, compile, generate, placed};
+use program_commands::{ands, arith, bench, compile, generate, placed};
 use program_texts::{check, eval};
 use revc_base::Bits;
 use revc_io::{Failed, Sink};
@@ -35,6 +36,8 @@ pub enum Prepared {
     File(Format, Laid),
     /// The line of a number of claims.
     Claims(u32),
+    /// The lines of the counts of a program's ANDs.
+    Ands(AndCounts),
     /// Bits as digits, and a line feed.
     Digits(Bits),
     /// Bits as digits, a line for each list.
@@ -63,6 +66,7 @@ impl Prepared {
         match self {
             Prepared::File(format, laid) => compile::write(*format, laid, out),
             Prepared::Claims(count) => write_number(out, b"claims ", *count as u64, b"\n"),
+            Prepared::Ands(counts) => ands::write(counts, out),
             Prepared::Digits(bits) => write_digits(bits.bits(), out),
             Prepared::Lines(lines) => write_lines(lines, out),
             Prepared::Stat(sizes) => stat::write(sizes, out),
@@ -83,6 +87,7 @@ pub fn limit_of(command: Command) -> Option<TextLimit>
     match command {
         Command::Compile => Some(program_limit()),
         Command::Check => Some(program_limit()),
+        Command::Ands => Some(program_limit()),
         Command::Eval => Some(program_limit()),
         Command::Stat => Some(circuit_limit()),
         Command::Run => Some(circuit_limit()),
@@ -143,6 +148,9 @@ pub fn prepare(alloc: Global, order: &Order, text: Vec<u8>) -> Result<Prepared, 
         }
         Command::Check => check::check(alloc, &text, order.values.assume, order.values.nodes).map(
             Prepared::Claims,
+        ),
+        Command::Ands => ands::count(alloc, &text, order.values.assume, order.values.nodes).map(
+            Prepared::Ands,
         ),
         Command::Eval => eval::evaluate(alloc, &text, order.word()).map(Prepared::Digits),
         Command::Stat => stat::measure(alloc, &text, order.values.from).map(Prepared::Stat),

@@ -1,7 +1,7 @@
 -- What the words of the command line see of each command.
 use Rattle.std.specs.Prelude.{ℕ, List, [], ◌∷◌, codes}
 use Rattle.revc_words.specs.declared.commands.Command.{Command}
-use Rattle.revc_words.specs.declared.commands.Command.TheVariants.{Compile, Check, Eval, Stat, Run, Convert, Tidy, Gen, Bench, Verify, Arith}
+use Rattle.revc_words.specs.declared.commands.Command.TheVariants.{Compile, Check, Ands, Eval, Stat, Run, Convert, Tidy, Gen, Bench, Verify, Arith}
 use Rattle.revc_words.specs.declared.commands.Positional.{Positional}
 use Rattle.revc_words.specs.declared.commands.Positional.TheVariants.{Nothing, Word, Words, Number, KindAndNumber}
 
@@ -22,6 +22,11 @@ spelling_of Compile = record {
 }
 spelling_of Check = record {
   name = codes "check";
+  options = codes "nodes" ∷ codes "assume" ∷ [];
+  takes = Nothing;
+}
+spelling_of Ands = record {
+  name = codes "ands";
   options = codes "nodes" ∷ codes "assume" ∷ [];
   takes = Nothing;
 }

@@ -12,6 +12,8 @@ pub enum Command {
     Compile,
     /// Reads a program and writes how many claims it has, each of which holds on all inputs.
     Check,
+    /// Reads a program and writes how many ANDs its run writes, and how many are enough.
+    Ands,
     /// Reads a program and writes the bits that it gives on the bits of a word.
     Eval,
     /// Reads a circuit and writes its counts.
@@ -60,9 +62,10 @@ pub struct Spelling<'a> {
 
 impl Command {
     // All commands.
-    const ALL: [Command; 11] = [
+    const ALL: [Command; 12] = [
         Command::Compile,
         Command::Check,
+        Command::Ands,
         Command::Eval,
         Command::Stat,
         Command::Run,
@@ -89,6 +92,7 @@ impl Command {
                 Positional::Nothing,
             ),
             Command::Check => spelled("check", &["nodes", "assume"], Positional::Nothing),
+            Command::Ands => spelled("ands", &["nodes", "assume"], Positional::Nothing),
             Command::Eval => spelled("eval", &[], Positional::Word),
             Command::Stat => spelled("stat", &["from"], Positional::Nothing),
             Command::Run => spelled("run", &["from"], Positional::Words),

@@ -2,10 +2,11 @@
 use Rattle.std.specs.Prelude.{ℕ, List}
 use Rattle.std.specs.List.{flat_map}
 use Rattle.revc_driver.specs.declared.commands.Prepared.{Prepared}
-use Rattle.revc_driver.specs.declared.commands.Prepared.TheVariants.{File, Claims, Digits, Lines, Stat, Converted, Program, Bench, Verified, Arith}
+use Rattle.revc_driver.specs.declared.commands.Prepared.TheVariants.{File, Claims, Ands, Digits, Lines, Stat, Converted, Program, Bench, Verified, Arith}
 use Rattle.circuit_commands.specs.Convert.{file_text}
 use Rattle.circuit_commands.specs.Stat.{stat_text}
 use Rattle.command_answers.specs.Lines.{bits_text}
+use Rattle.program_commands.specs.Ands.{ands_text}
 use Rattle.program_commands.specs.Bench.{bench_text}
 use Rattle.program_texts.specs.Check.{claims_text}
 use Rattle.program_commands.specs.Outcomes as programs
@@ -16,6 +17,7 @@ use Rattle.verify_command.specs.Verify.{verified_text}
 abbrev pub text_of : Prepared → List ℕ
 text_of (File format laid) = file_of format laid
 text_of (Claims count) = claims_text count
+text_of (Ands counts) = ands_text counts
 text_of (Digits bits) = bits_text bits
 text_of (Lines lines) = flat_map bits_text lines.items
 text_of (Stat sizes) = stat_text sizes
@@ -28,6 +30,7 @@ text_of (Arith made) = programs.made_text made
 abbrev pub CanBeWritten : Prepared → Type 0
 CanBeWritten (File format laid) = IsWritable laid
 CanBeWritten (Claims count) = Unit {0}
+CanBeWritten (Ands counts) = Unit {0}
 CanBeWritten (Digits bits) = Unit {0}
 CanBeWritten (Lines lines) = Unit {0}
 CanBeWritten (Stat sizes) = Unit {0}

@@ -1,4 +1,3 @@
-use Rattle.std.proofs.Common.{◌∙◌, sym}
 use Rattle.revc_words.specs.Words.{order_of}
 use Rattle.program_commands.proofs.PlacedLemmas.{given, not_given_beside, not_given_in_place}
 use Rattle.program_commands.proofs.placed.compile_placed.Goals as goal
