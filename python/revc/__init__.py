@@ -14,7 +14,7 @@ from .arithmetic import popcount
 from .choices import Switch
 from .circuits import Circuit
 from .costs import Costs, Row
-from .counting import Cost
+from .counting import Ands, Cost
 from .equality import equal
 from .errors import (CircuitDiffers, CircuitRefused, ClaimFails, GatesExceeded, KindError, KnownLater, LinesExceeded,
                      NodesExceeded, OutOfMemory, PlaceError, ReadError, Refused, RevcError, TextRefused, TimedOut, Unsettled,
@@ -32,7 +32,7 @@ from .types import *
 from .values import Bits
 
 __version__ = "1.1"
-__all__ = ["Bits", "Cat", "Circuit", "CircuitDiffers", "CircuitRefused", "ClaimFails", "Const", "Cost", "Costs",
+__all__ = ["Ands", "Bits", "Cat", "Circuit", "CircuitDiffers", "CircuitRefused", "ClaimFails", "Const", "Cost", "Costs",
            "GatesExceeded", "KindError", "KnownLater", "LinesExceeded", "Mux", "Netlist", "NodesExceeded", "Oracle",
            "OutOfMemory", "PlaceError", "ReadError", "Refused", "RevcError", "Row", "Source", "Step", "Switch",
            "TextRefused", "TimedOut", "Unsettled", "WidthError", "add", "assume", "clean", "equal", "function", "load", "oracle",

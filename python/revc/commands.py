@@ -58,6 +58,10 @@ def do_check(options: argparse.Namespace) -> None:
     print(f"claims {source_of(options.program).check(options.nodes, options.timeout, options.assume or None)}")
 
 
+def do_ands(options: argparse.Namespace) -> None:
+    print(source_of(options.program).ands(options.nodes, options.timeout, options.assume or None))
+
+
 def do_run(options: argparse.Namespace) -> None:
     if is_circuit(options.program) and "=" not in "".join(options.numbers):
         sys.stdout.write(on_circuit(["run", *options.numbers], circuit_text(options.program), options.program))
@@ -250,6 +254,7 @@ COMMANDS: List[Tuple[str, Command, str, Tuple[str, ...], Taking]] = [
     ("compile", do_compile, "write the clean circuit of a program, and say what it costs", ("program",), takes_compile),
     ("costs", do_costs, "show what all can be had: plans, and lines from the least that fits up", (), takes_costs),
     ("check", do_check, "prove the claims of a program for all inputs", ("program",), takes_check),
+    ("ands", do_ands, "count the ANDs of a program, and those that are enough for it", ("program",), takes_check),
     ("run", do_run, "run a program or a circuit on numbers (a=3 b=5), or a circuit on bits", ("program",), takes_numbers),
     ("stat", do_stat, "count lines, gates, depths and T gates of a circuit", ("circuit",), takes_nothing),
     ("verify", do_verify, "prove that a circuit computes a program on every input", ("program", "circuit"),

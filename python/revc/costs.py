@@ -63,8 +63,8 @@ class Costs(List[Row]):
     """The circuits that no other one beats in all of the counts that are shown, as a list of rows.
 
     Each row has `plan`, `lines` (what to give to `compile`), `cost` (all counts) and `call`. `print` and notebooks show
-    them as a table, the least of `by` first; `draw` shows what `by` counts against lines. `is_late` says that `timeout`
-    seconds were over before all was tried.
+    them as a table, the least of `by` first; `draw` shows what `by` counts against lines. `ands` are the program's ANDs.
+    `is_late` says that `timeout` seconds were over before all was tried.
     """
 
     def __init__(self, source: RevsText, plans: Optional[Sequence[str]] = None, points: int = 6, by: str = BY,
@@ -72,6 +72,7 @@ class Costs(List[Row]):
         super().__init__()
         check_count(by)
         search = Search(source, timeout, (points + HALVINGS) * len(plans or all_plans()), progress)
+        self.ands = search.ands()
         found: Dict[Tuple[int, ...], Row] = {}
         for plan, lines, circuit in every_circuit(search, plans, points):
             found.setdefault(counts(circuit.cost), Row(plan, lines, circuit.cost))
@@ -89,6 +90,7 @@ class Costs(List[Row]):
         wide = [max(map(len, column)) for column in zip(*table)]
         lines = ["  ".join(word.ljust(n) if k in (0, len(wide) - 1) else word.rjust(n)
                            for k, (word, n) in enumerate(zip(row, wide))).rstrip() for row in table]
+        lines += [str(self.ands)] if self.ands else []
         return "\n".join(lines + (["(cut short: not all was tried)"] if self.is_late else []))
 
     def _repr_html_(self) -> str:

@@ -42,6 +42,22 @@ class Cost(NamedTuple):
                 f"{self.toffoli_depth:,}; {self.t:,} T), {self.cx:,} CX, {self.x:,} X; depth {self.depth:,}")
 
 
+class Ands(NamedTuple):
+    """The ANDs of a program, by the command `ands`.
+
+    `ands` are those that its run writes, `left` as many as are enough: so many has a graph of XORs and ANDs that computes the
+    same, as far as a search finds one. `depth` is the most of the first one behind the other, where constants are folded.
+    """
+
+    ands: int
+    left: int
+    depth: int
+
+    def __str__(self) -> str:
+        fewer = f", {self.left:,} would do" if self.left < self.ands else ""
+        return f"{self.ands:,} AND{'s' * (self.ands != 1)}{fewer}; AND depth {self.depth:,}"
+
+
 def depths(gates: Sequence[Sequence[int]], lines: int) -> Tuple[int, int]:
     """The depth of gates, each the list of its lines, and the same with Toffoli gates alone counted."""
     all_, toffoli = [0] * lines, [0] * lines

@@ -4,6 +4,7 @@ import re
 from typing import Any, Dict, List, Optional, Protocol, Sequence, Tuple, TypeVar, Union
 
 from . import program, refusals
+from .counting import Ands
 from .defaults import DEFAULTS, NODES, WAY, WAYS
 from .errors import ClaimFails, Refused, RevcError, WidthError
 from .names import Place
@@ -161,6 +162,15 @@ class RevsText:
         within(nodes=nodes)
         words = ["check", "--nodes", str(nodes), *self.assuming(assume).granted]
         return int(self.ask(words, deadline=Deadline(timeout)).split()[1])
+
+    def ands(self, nodes: int = NODES, timeout: Optional[float] = None, assume: Optional[int] = None) -> Ands:
+        """How many ANDs the program's run writes, how many are enough, and how many stand one behind the other.
+
+        All claims are proved first, as by `check`. After `timeout` seconds it is given up, by `TimedOut`.
+        """
+        within(nodes=nodes)
+        words = ["ands", "--nodes", str(nodes), *self.assuming(assume).granted]
+        return Ands(*map(int, self.ask(words, deadline=Deadline(timeout)).split()[1::2]))
 
     def verify(self, circuit: Union[Compiled, str], nodes: int = NODES, borrow: int = 0, by: str = WAY,
                timeout: Optional[float] = None, inplace: bool = False) -> str:

@@ -3,6 +3,7 @@ from typing import Iterator, List, Optional, Sequence, Tuple
 
 from . import program
 from .circuits import Circuit
+from .counting import Ands
 from .defaults import GATES, LINES, NODES
 from .errors import GatesExceeded, LinesExceeded, TimedOut
 from .program import Deadline
@@ -32,6 +33,14 @@ class Search:
             self.is_late = True
         except (LinesExceeded, GatesExceeded):
             pass
+        return None
+
+    def ands(self) -> Optional[Ands]:
+        """The ANDs of the program, or nothing where that takes too long."""
+        try:
+            return self.source.ands(timeout=self.deadline.left())
+        except TimedOut:
+            self.is_late = True
         return None
 
     def least(self, plan: str, limit: int, found: Circuit, gates: int = GATES) -> Tuple[int, Circuit]:

@@ -8,7 +8,7 @@ from random import Random
 from typing import Dict, List
 
 import revc
-from revc import Circuit, RevcError, Source, U3, U4, oracle
+from revc import Circuit, ClaimFails, RevcError, Source, U3, U4, oracle
 from revc.costs import COUNTS
 from revc.netlists import read_text
 
@@ -42,6 +42,27 @@ def stat(text: str, ending: str = ".real") -> Dict[str, int]:
         path.write_text(text)
         done = subprocess.run([sys.executable, "-m", "revc", "stat", str(path)], stdout=subprocess.PIPE, check=True)
     return {line.split()[0]: int(line.split()[1]) for line in done.stdout.decode().splitlines()}
+
+
+class AndCounts(unittest.TestCase):
+    def test_known_functions(self) -> None:
+        majority = Source("main (a : bool) (b : bool) (c : bool) = a && b <> a && c <> b && c")
+        self.assertEqual(majority.ands(), (3, 1, 1))
+        self.assertEqual(str(majority.ands()), "3 ANDs, 1 would do; AND depth 1")
+        chain = Source("main (a : bool[4]) = a.[0] && a.[1] && a.[2] && a.[3]")
+        self.assertEqual(str(chain.ands(timeout=60)), "3 ANDs; AND depth 3")
+        self.assertEqual(str(Source("main (a : bool) (b : bool) = a && b").ands()), "1 AND; AND depth 1")
+
+    def test_assumed_claims(self) -> None:
+        claimed = Source("main (a : bool) (b : bool) = { assert a; a && b }")
+        self.assertEqual(claimed.ands(assume=1).ands, 1)
+        with self.assertRaises(ClaimFails):
+            claimed.ands()
+
+    def test_costs_tell_them(self) -> None:
+        costs = little.costs(plans=["lean"], points=1)
+        self.assertEqual(costs.ands, little.ands())
+        self.assertEqual(str(costs).splitlines()[-1], str(little.ands()))
 
 
 class Tables(unittest.TestCase):
