@@ -22,6 +22,7 @@ pub fn clean(graph: &mut Graph, work: &mut Work) {
         let order = order_of(graph, work);
         let mut cleaning = Cleaning::new(graph, work, &order);
         cleaning.clean_nodes(graph, work, &order);
+        let order = order_of(graph, work);
         share_products(graph, work, &order);
         if graph.done() == done {
             break;
