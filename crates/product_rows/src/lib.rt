@@ -2,10 +2,14 @@
 //! in all rows of these. Of none of it anything is promised.
 #![tactic(auto)]
 
+mod echelon;
 mod needless;
+mod quadratic;
 mod rows;
 mod spans;
 mod tables;
 
+pub use echelon::{CONSTANT, Echelon};
 pub use needless::drop_needless;
+pub use quadratic::by_rank;
 pub use tables::by_table;

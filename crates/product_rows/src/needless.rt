@@ -63,8 +63,8 @@ fn new_sum(work: &mut Work, rows: &Rows, spans: &Spans, symbol: u32, old: &Symbo
         made.add_affine(work, sum);
         return made;
     }
-    let bits = spans.written(work, old.one, &old.bits);
-    made.add_affine(work, &bits);
+    made.one = old.one;
+    made.add_bits(work, &old.bits);
     for product in &old.products {
         add_product(work, rows, product, &mut made);
     }

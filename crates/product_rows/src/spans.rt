@@ -1,11 +1,9 @@
 // Which nodes are sums of earlier ones, by their values.
-use crate::rows::{Rows, add};
+use crate::echelon::{CONSTANT, Echelon};
+use crate::rows::Rows;
 use plan_tools::{Table, Work, number};
 use std::collections::BTreeMap;
 use symbol_graphs::{Affine, Graph};
-
-// The constant, as a symbol.
-const ALL: u32 = u32::MAX;
 
 // The most nodes that are told apart, and the most symbols of a sum that takes a node's place.
 const MOST_ROWS: usize = 600;
@@ -14,19 +12,10 @@ const MOST_BITS: usize = 16;
 
 const NONE: u32 = u32::MAX;
 
-// A sum of symbols with its values, and where the first of them is that is not 0.
-#[derive(Drop)]
-struct Row {
-    symbols: Vec<u32>,
-    values: Vec<u64>,
-    place: usize,
-    bit: u64,
-}
-
 /// Nodes that are sums of earlier ones in all rows.
 #[derive(Drop)]
 pub struct Spans {
-    rows: Vec<Row>,
+    rows: Echelon,
     /// Symbols by the marks of their values.
     known: BTreeMap<u64, u32>,
     sums: Vec<Affine>,
@@ -37,23 +26,25 @@ impl Spans {
     /// Those among the nodes of an order that have products.
     pub fn of(graph: &Graph, work: &mut Work, rows: &Rows, order: &[u32]) -> Spans {
         let mut spans = Spans {
-            rows: Vec::new(work.alloc),
+            rows: Echelon::new(work.alloc),
             known: BTreeMap::new(work.alloc),
             sums: Vec::new(work.alloc),
             places: Table::new(work, graph.symbol(graph.nodes()) as usize, NONE),
         };
         let all = rows.all(work);
-        spans.add(work, ALL, all);
+        let constant = work.copy(&[CONSTANT]);
+        spans.rows.add(work, constant, all);
         for input in 0..graph.inputs {
             spans.add_known(work, rows, input);
             let values = work.copy(rows.values(input));
-            spans.add(work, input, values);
+            let symbols = work.copy(&[input]);
+            spans.rows.add(work, symbols, values);
         }
         for node in order {
             let symbol = graph.symbol(*node);
             if !spans.add_known(work, rows, symbol)
                 && !graph.products(*node).is_empty()
-                && spans.rows.len() < MOST_ROWS
+                && spans.rows.rank() < MOST_ROWS
             {
                 spans.add_node(work, rows, symbol);
             }
@@ -87,11 +78,12 @@ impl Spans {
 
     fn add_node(&mut self, work: &mut Work, rows: &Rows, symbol: u32) {
         let values = work.copy(rows.values(symbol));
-        let Some(symbols) = self.add(work, symbol, values) else {
+        let own = work.copy(&[symbol]);
+        let Some(symbols) = self.rows.add(work, own, values) else {
             return;
         };
         let sum = Affine {
-            one: symbols.first() == Some(&ALL),
+            one: symbols.first() == Some(&CONSTANT),
             bits: others(work, &symbols, symbol),
         };
         if sum.bits.len() <= MOST_BITS {
@@ -99,53 +91,9 @@ impl Spans {
         }
     }
 
-    // Takes a symbol in, unless the rows make it up: then what vanishes with it.
-    fn add(&mut self, work: &mut Work, symbol: u32, values: Vec<u64>) -> Option<Vec<u32>> {
-        let mut values = values;
-        let mut symbols = work.copy(&[symbol]);
-        work.spend(self.rows.len().saturating_mul(values.len()) as u64 / 128);
-        for row in &self.rows {
-            if values.get(row.place).copied().unwrap_or(0) & row.bit != 0 {
-                add(&mut values, &row.values);
-                symbols = work.sum_of(&symbols, &row.symbols);
-            }
-        }
-        let Some(place) = values.iter().position(|word| *word != 0) else {
-            return Some(symbols);
-        };
-        let word = values.get(place).copied().unwrap_or(0);
-        let row = Row {
-            symbols,
-            values,
-            place,
-            bit: word & word.wrapping_neg(),
-        };
-        work.push(&mut self.rows, row);
-        None
-    }
-
     /// The sum of earlier symbols that a symbol is.
     pub fn sum(&self, symbol: u32) -> Option<&Affine> {
         self.sums.get(self.places.get(symbol) as usize)
-    }
-
-    /// A sum of symbols with those that are such sums written out, where it stays short.
-    pub fn written(&self, work: &mut Work, one: bool, bits: &[u32]) -> Affine {
-        let mut made = Affine {
-            one,
-            bits: work.copy(bits),
-        };
-        for symbol in bits {
-            if let Some(sum) = self.sum(*symbol) {
-                made.bits = work.sum_of(&made.bits, &[*symbol]);
-                made.add(work, sum);
-            }
-        }
-        if made.bits.len() > MOST_BITS.max(bits.len()) {
-            made.one = one;
-            made.bits = work.copy(bits);
-        }
-        made
     }
 }
 
@@ -153,7 +101,7 @@ impl Spans {
 fn others(work: &mut Work, symbols: &[u32], symbol: u32) -> Vec<u32> {
     let mut others = Vec::new(work.alloc);
     for other in symbols {
-        if *other != symbol && *other != ALL {
+        if *other != symbol && *other != CONSTANT {
             work.push(&mut others, *other);
         }
     }
