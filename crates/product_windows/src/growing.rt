@@ -1,11 +1,13 @@
 // How windows grow: node by node where few more sums come of it, and by nodes beside the target.
-use crate::windows::{Target, Window, has_symbol};
+use crate::windows::{Target, Width, Window, has_symbol};
 use plan_tools::Work;
 use symbol_graphs::Graph;
 
 // The most nodes that are opened, the most of them without products, and how many are tried for
 // each.
 const MOST_OPENED: usize = 12;
+
+const MOST_OPENED_WIDE: usize = 20;
 
 const MOST_LINEAR: usize = 3;
 
@@ -27,9 +29,13 @@ const MOST_BITS_BESIDE: usize = 12;
 const MOST_USERS: usize = 16;
 
 /// The window of a target, grown.
-pub fn grown(graph: &Graph, work: &mut Work, target: &Target) -> Option<Window> {
-    let mut window = Window::of(graph, work, target, Vec::new(work.alloc))?;
-    for _ in 0..MOST_OPENED {
+pub fn grown(graph: &Graph, work: &mut Work, target: &Target, width: Width) -> Option<Window> {
+    let most = match width {
+        Width::Narrow => MOST_OPENED,
+        Width::Wide(_) => MOST_OPENED_WIDE,
+    };
+    let mut window = Window::of(graph, work, target, Vec::new(work.alloc), width)?;
+    for _ in 0..most {
         let Some(next) = best_grown(graph, work, target, &window) else {
             break;
         };
@@ -95,7 +101,7 @@ fn grown_by(
         return None;
     }
     let opened = opened_with(graph, work, &window.opened, symbol);
-    let found = Window::of(graph, work, target, opened)?;
+    let found = Window::of(graph, work, target, opened, window.width)?;
     let is_linear = products == 0 && found.rank() >= window.rank();
     if is_linear && linear_nodes(graph, &window.opened) >= MOST_LINEAR {
         return None;
@@ -159,7 +165,7 @@ fn with_nodes_beside(graph: &Graph, work: &mut Work, target: &Target, window: Wi
             break;
         }
         let opened = opened_with(graph, work, &window.opened, graph.symbol(*node));
-        if let Some(more) = Window::of(graph, work, target, opened)
+        if let Some(more) = Window::of(graph, work, target, opened, window.width)
             && more.rank() <= window.rank()
         {
             window = more;

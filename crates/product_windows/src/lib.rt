@@ -9,6 +9,7 @@ mod passes;
 mod rewriting;
 mod search;
 mod simpler;
+mod wide;
 mod windows;
 
 pub use search::propose;

@@ -41,7 +41,8 @@ impl Names {
     fn add_nodes(&mut self, work: &mut Work, window: &Window, gone: &[u32]) {
         let mut room = MOST_WORDS.saturating_sub(window.rank());
         for known in window.known.iter().rev() {
-            if gone.contains(&known.symbol) || is_plain(known) || !known.is_linear && room == 0 {
+            let is_plain = known.is_linear && known.leaf.len() <= 1;
+            if gone.contains(&known.symbol) || is_plain || !known.is_linear && room == 0 {
                 continue;
             }
             let Some(word) = window.word_over_basis(work, &known.leaf) else {
@@ -205,9 +206,4 @@ impl Names {
     pub fn word(&self, mask: u32) -> u64 {
         word_of(&self.words, mask)
     }
-}
-
-// Whether a node is one symbol, or a constant, as it is written out.
-fn is_plain(known: &Known) -> bool {
-    known.is_linear && known.leaf.len() <= 1
 }

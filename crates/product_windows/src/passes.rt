@@ -1,8 +1,10 @@
 // Passes over all nodes, until none gains.
 use crate::growing::grown;
 use crate::rewriting::{Gain, rewrite};
-use crate::windows::{RANK, Target, Window};
+use crate::wide::vanish;
+use crate::windows::{Target, Width, Window};
 use plan_tools::Work;
+use product_rows::by_rank;
 use symbol_graphs::{GONE, Graph, clean};
 
 /// In which order nodes are gone over.
@@ -40,24 +42,47 @@ const MOST_OWN: usize = 8;
 const FRUITLESS: usize = 2_000;
 
 /// So many products are more than are gone over once more where that gained nothing.
-pub const FEW_PRODUCTS: usize = 1_000;
+pub const FEW_PRODUCTS: usize = 500;
 
-/// The search, and the units that it may spend.
-#[derive(Clone, Copy)]
-pub struct Search {
-    pub order: Order,
-    pub most_units: u64,
-    pub may_simplify: bool,
+// What a pass looks for.
+#[derive(Clone, Copy, PartialEq, Eq)]
+enum Aim {
+    // Fewer products.
+    Fewer,
+    // Products of fewer symbols too.
+    Simpler,
+    // Products that are sums of what stays in wide windows.
+    Wide,
 }
 
-/// Passes in one order until none gains, with simpler products where nothing else is found.
+impl Aim {
+    fn width(self) -> Width {
+        if self == Aim::Wide {
+            Width::Wide(0)
+        } else {
+            Width::Narrow
+        }
+    }
+}
+
+// A pass, and the units that may be spent until its end.
+#[derive(Clone, Copy)]
+struct Search {
+    order: Order,
+    most_units: u64,
+    aim: Aim,
+}
+
+/// Passes in one order until none gains, with simpler products and then in wide windows where
+/// nothing else is found.
 pub fn settle(graph: &mut Graph, work: &mut Work, order: Order, most_units: u64) {
     let mut search = Search {
         order,
         most_units,
-        may_simplify: false,
+        aim: Aim::Fewer,
     };
     let mut had_gain = true;
+    let mut had_simpler = false;
     let mut before = graph.count();
     for number in 0..MOST_PASSES {
         let simpler = pass(graph, work, search);
@@ -69,16 +94,18 @@ pub fn settle(graph: &mut Graph, work: &mut Work, order: Order, most_units: u64)
         if is_fruitless || work.is_stopped() || work.spent() > most_units {
             return;
         }
-        if gains {
-            had_gain = true;
-            search.may_simplify = false;
-        } else if !search.may_simplify {
-            search.may_simplify = true;
-        } else if simpler == 0 || !had_gain {
-            return;
-        } else {
-            had_gain = false;
-            search.may_simplify = false;
+        if search.aim != Aim::Wide {
+            had_simpler = simpler > 0;
+        }
+        search.aim = match search.aim {
+            _ if gains => Aim::Fewer,
+            Aim::Fewer => Aim::Simpler,
+            Aim::Simpler => Aim::Wide,
+            Aim::Wide if had_simpler && had_gain => Aim::Fewer,
+            Aim::Wide => return,
+        };
+        if search.aim == Aim::Fewer {
+            had_gain = gains;
         }
     }
 }
@@ -94,7 +121,7 @@ fn pass(graph: &mut Graph, work: &mut Work, search: Search) -> usize {
             break;
         }
         seen = seen.saturating_add(graph.products(*node).len());
-        let gain = rewrite_node(graph, work, *node, search.may_simplify);
+        let gain = rewrite_node(graph, work, *node, search.aim);
         gained = gained.saturating_add(gain.products);
         simpler = simpler.saturating_add(usize::from(gain.is_simpler));
     }
@@ -125,14 +152,15 @@ pub fn nodes_in_order(graph: &Graph, work: &mut Work, order: Order) -> Vec<u32> 
 
 // Rewrites the products of a node: each is a seed beside which others are taken, and is tried alone
 // where that gains nothing.
-fn rewrite_node(graph: &mut Graph, work: &mut Work, node: u32, may_simplify: bool) -> Gain {
+fn rewrite_node(graph: &mut Graph, work: &mut Work, node: u32, aim: Aim) -> Gain {
     let mut all = Gain::NONE;
+    all.products = by_rank(graph, work, node);
     let mut seed = 0;
     for _ in 0..MOST_SEEDS.saturating_mul(4) {
         if seed >= graph.products(node).len().min(MOST_SEEDS) || graph.node_place(node) == GONE {
             break;
         }
-        let gain = rewrite_seed(graph, work, node, seed, may_simplify);
+        let gain = rewrite_seed(graph, work, node, seed, aim);
         all.products = all.products.saturating_add(gain.products);
         all.is_simpler = all.is_simpler || gain.is_simpler;
         if gain.products == 0 {
@@ -142,15 +170,9 @@ fn rewrite_node(graph: &mut Graph, work: &mut Work, node: u32, may_simplify: boo
     all
 }
 
-fn rewrite_seed(
-    graph: &mut Graph,
-    work: &mut Work,
-    node: u32,
-    seed: usize,
-    may_simplify: bool,
-) -> Gain {
-    let target = target_of(graph, work, node, seed);
-    let gain = rewrite_target(graph, work, &target, may_simplify);
+fn rewrite_seed(graph: &mut Graph, work: &mut Work, node: u32, seed: usize, aim: Aim) -> Gain {
+    let target = target_of(graph, work, node, seed, aim.width());
+    let gain = rewrite_target(graph, work, &target, aim);
     if gain.products > 0 || target.own.len() < 2 {
         return gain;
     }
@@ -158,32 +180,33 @@ fn rewrite_seed(
         node,
         own: work.copy(&[seed]),
     };
-    rewrite_target(graph, work, &alone, may_simplify)
+    rewrite_target(graph, work, &alone, aim)
 }
 
-fn rewrite_target(graph: &mut Graph, work: &mut Work, target: &Target, may_simplify: bool) -> Gain {
-    match grown(graph, work, target) {
-        Some(window) => rewrite(graph, work, target, window, may_simplify),
+fn rewrite_target(graph: &mut Graph, work: &mut Work, target: &Target, aim: Aim) -> Gain {
+    match grown(graph, work, target, aim.width()) {
+        Some(window) if aim == Aim::Wide => vanish(graph, work, target, window),
+        Some(window) => rewrite(graph, work, target, window, aim == Aim::Simpler),
         None => Gain::NONE,
     }
 }
 
 // A seed, and the products beside it that are of few more sums.
-fn target_of(graph: &Graph, work: &mut Work, node: u32, seed: usize) -> Target {
+fn target_of(graph: &Graph, work: &mut Work, node: u32, seed: usize, width: Width) -> Target {
     let mut target = Target {
         node,
         own: work.copy(&[seed]),
     };
     let count = graph.products(node).len();
-    let Some(window) = Window::of(graph, work, &target, Vec::new(work.alloc)) else {
+    let Some(window) = Window::of(graph, work, &target, Vec::new(work.alloc), width) else {
         return target;
     };
     let mut rank = window.rank();
     for _ in 1..count.min(MOST_OWN) {
-        let Some((more, place)) = nearest(graph, work, &target, count, rank) else {
+        let Some((more, place)) = nearest(graph, work, &target, width, rank) else {
             break;
         };
-        if more > RANK || more >= rank.saturating_add(2) {
+        if more >= rank.saturating_add(2) {
             break;
         }
         work.push(&mut target.own, place);
@@ -197,9 +220,10 @@ fn nearest(
     graph: &Graph,
     work: &mut Work,
     target: &Target,
-    count: usize,
+    width: Width,
     rank: usize,
 ) -> Option<(usize, usize)> {
+    let count = graph.products(target.node).len();
     let mut best: Option<(usize, usize)> = None;
     if count > MOST_SEEDS {
         return None;
@@ -208,9 +232,16 @@ fn nearest(
         if target.has(place) {
             continue;
         }
-        let Some(found) = rank_with(graph, work, target, place) else {
+        let mut own = work.copy(&target.own);
+        work.push(&mut own, place);
+        let both = Target {
+            node: target.node,
+            own,
+        };
+        let Some(window) = Window::of(graph, work, &both, Vec::new(work.alloc), width) else {
             continue;
         };
+        let found = window.rank();
         if best.is_none_or(|best| (found, place) < best) {
             best = Some((found, place));
         }
@@ -219,15 +250,4 @@ fn nearest(
         }
     }
     best
-}
-
-fn rank_with(graph: &Graph, work: &mut Work, target: &Target, place: usize) -> Option<usize> {
-    let mut own = work.copy(&target.own);
-    work.push(&mut own, place);
-    let both = Target {
-        node: target.node,
-        own,
-    };
-    let window = Window::of(graph, work, &both, Vec::new(work.alloc))?;
-    Some(window.rank())
 }

@@ -1,10 +1,10 @@
 // A target rewritten with fewer products, or with a product of fewer symbols.
 use crate::naming::Names;
 use crate::simpler::simpler;
-use crate::windows::{Target, Window};
+use crate::windows::{Target, Window, has_symbol};
 use plan_tools::Work;
 use symbol_graphs::{Affine, Graph, Opened, Step, SymbolProduct, SymbolSum};
-use window_programs::{ONE, Program, bit, has, mask_of, program_for};
+use window_programs::{ONE, Program, bit, from_variables, has, is_easy, mask_of, program_for};
 
 /// What a rewriting gained.
 #[derive(Clone, Copy)]
@@ -23,7 +23,8 @@ impl Gain {
 }
 
 /// Rewrites a target by a window, with fewer products than it has together with the nodes that are
-/// gone then; where `may_simplify`, else with one product of fewer symbols.
+/// gone then; where `may_simplify`, with three and more too, or else with one product of fewer
+/// symbols.
 pub fn rewrite(
     graph: &mut Graph,
     work: &mut Work,
@@ -60,7 +61,7 @@ struct Rewriting {
 
 impl Rewriting {
     fn of(graph: &Graph, work: &mut Work, target: &Target, window: Window) -> Rewriting {
-        let gone = gone_nodes(graph, work, target, &window);
+        let gone = gone_nodes(graph, work, target, &window, false);
         let mut rest = SymbolSum::zero(work.alloc);
         let mut goal = window.own;
         if let Some(sum) = graph.sum(target.node) {
@@ -95,7 +96,7 @@ impl Rewriting {
             return Some((found, false));
         }
         if most >= 2
-            && let Some(found) = program_for(work, words, self.goal, 2)
+            && let Some(found) = self.of_several(work, most, may_simplify)
         {
             return Some((found, false));
         }
@@ -103,6 +104,22 @@ impl Rewriting {
             return None;
         }
         Some((simpler(work, &self.names, self.goal, self.size?)?, true))
+    }
+
+    // A program of two products; of more where passes without these gain nothing, since what takes
+    // so many at once hides what windows share.
+    fn of_several(&self, work: &mut Work, most: usize, may_part: bool) -> Option<Program> {
+        let words = &self.names.words;
+        let is_easy = is_easy(self.goal);
+        if is_easy && let Some(found) = from_variables(work, words, self.goal, most) {
+            return Some(found);
+        }
+        match program_for(work, words, self.goal, 2) {
+            None if may_part && most >= 3 && !is_easy => from_variables(
+                work, words, self.goal, most,
+            ),
+            found => found,
+        }
     }
 
     // Gives the target its new sum.
@@ -189,11 +206,22 @@ pub fn put(graph: &mut Graph, work: &mut Work, target: u32, sum: SymbolSum, open
 
 // ---- what goes and what stays
 
-// The opened nodes that the target's own products and such nodes alone use, the last first.
-fn gone_nodes(graph: &Graph, work: &mut Work, target: &Target, window: &Window) -> Vec<u32> {
+/// The opened nodes that the target's own products and such nodes alone use, the last first; where
+/// the target keeps its bits, none of these.
+pub fn gone_nodes(
+    graph: &Graph,
+    work: &mut Work,
+    target: &Target,
+    window: &Window,
+    keeps_bits: bool,
+) -> Vec<u32> {
     let mut gone = Vec::new(work.alloc);
+    let kept = match graph.sum(target.node) {
+        Some(sum) if keeps_bits => sum.bits.as_slice(),
+        _ => &[],
+    };
     for symbol in window.opened.iter().rev() {
-        if goes(graph, target, &gone, *symbol) {
+        if !has_symbol(kept, *symbol) && goes(graph, target, &gone, *symbol) {
             work.push(&mut gone, *symbol);
         }
     }
@@ -218,7 +246,8 @@ fn is_in_rest(graph: &Graph, target: &Target, symbol: u32) -> bool {
     products.iter().enumerate().any(|(place, product)| !target.has(place) && product.has(symbol))
 }
 
-fn cost_of(graph: &Graph, target: &Target, gone: &[u32]) -> usize {
+/// How many products a target and the nodes that go have.
+pub fn cost_of(graph: &Graph, target: &Target, gone: &[u32]) -> usize {
     let mut cost = target.own.len();
     for symbol in gone {
         if let Some(sum) = graph.sum_of_symbol(*symbol) {

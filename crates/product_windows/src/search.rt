@@ -29,37 +29,30 @@ pub fn propose(alloc: Global, sums: &Sums) -> Result<Proposal, Stop> {
     let mut work = Work::new(alloc, u64::MAX);
     let begun = Graph::of(&mut work, sums);
     let bounds = Bounds::of(sums);
-    let first = begun.copy(&mut work);
-    let forth = from_inputs(first, &mut work, bounds);
-    if forth.products >= bounds.products && bounds.are_many() {
+    let best = from_both_sides(&begun, &mut work, bounds);
+    if best.products >= bounds.products && bounds.are_many() {
         work.finish(())?;
         return Err(Stop::GaveUp);
     }
-    if bounds.is_fruitless(forth.products) {
-        return work.finish(forth.into_proposal());
-    }
-    let second = begun.copy(&mut work);
-    let back = from_outputs(second, &mut work, bounds, forth.has_gained());
-    let best = with_table(begun, &mut work, bounds, forth.better(back));
+    let best = with_table(begun, &mut work, bounds, best);
     work.finish(best.into_proposal())
 }
 
-// The search that begins from the inputs.
-fn from_inputs(graph: Graph, work: &mut Work, bounds: Bounds) -> Attempt {
-    let mut attempt = Attempt::new(graph, work);
-    attempt.search(work, Order::Forth, bounds);
-    attempt
-}
-
-// The search that begins from the outputs, unless nothing was gained and nothing is new.
-fn from_outputs(graph: Graph, work: &mut Work, bounds: Bounds, had_gain: bool) -> Attempt {
-    let mut attempt = Attempt::new(graph, work);
-    let done = attempt.graph.done();
-    attempt.prepare(work, bounds);
-    if had_gain || attempt.graph.done() > done {
-        attempt.search(work, Order::Back, bounds);
+// The better one of the searches that begin from the inputs and from the outputs, of which the
+// second is left out where little was gained of much, or nothing is new.
+fn from_both_sides(begun: &Graph, work: &mut Work, bounds: Bounds) -> Attempt {
+    let mut forth = Attempt::new(begun.copy(work), work);
+    forth.search(work, Order::Forth, bounds);
+    if bounds.is_fruitless(forth.products) {
+        return forth;
     }
-    attempt
+    let mut back = Attempt::new(begun.copy(work), work);
+    let done = back.graph.done();
+    back.prepare(work, bounds);
+    if forth.products < forth.begun || back.graph.done() > done {
+        back.search(work, Order::Back, bounds);
+    }
+    forth.better(back)
 }
 
 // The better one of an attempt and of that from a table, where this is not far from it.
@@ -72,7 +65,7 @@ fn with_table(begun: Graph, work: &mut Work, bounds: Bounds, best: Attempt) -> A
     if graph.count() >= best.products.saturating_mul(2) {
         return best;
     }
-    best.better(from_inputs(graph, work, bounds))
+    best.better(from_both_sides(&graph, work, bounds))
 }
 
 // How many products there were before anything was done, and the units that may be spent.
@@ -133,10 +126,6 @@ impl Attempt {
             steps: graph.done(),
             graph,
         }
-    }
-
-    fn has_gained(&self) -> bool {
-        self.products < self.begun
     }
 
     // Plateaus in both orders, as long as they gain.

@@ -3,8 +3,10 @@ use plan_tools::Work;
 use symbol_graphs::{Graph, SymbolProduct, SymbolSum};
 use window_programs::VARIABLES;
 
-/// The most sums of symbols that a window is written out over.
-pub const RANK: usize = 6;
+// The most sums of symbols that a window is written out over, in one word and in many turns.
+const RANK: usize = 6;
+
+const WIDE_RANK: usize = 10;
 
 // The most products of a window, and the most symbols of a sum that a factor is written out as.
 const MOST_PRODUCTS: usize = 30;
@@ -13,6 +15,29 @@ const MOST_BITS: usize = 40;
 
 // What a window costs beside the symbols that are read for it.
 const WINDOW_UNITS: usize = 20;
+
+/// What the words of a window have.
+#[derive(Clone, Copy)]
+pub enum Width {
+    /// All rows of at most six sums.
+    Narrow,
+    /// Those rows of at most ten sums in which the last four have the values of a turn.
+    Wide(u64),
+}
+
+impl Width {
+    /// The word of a sum; none behind the last one.
+    pub fn variable(self, place: usize) -> Option<u64> {
+        match self {
+            _ if place < RANK => VARIABLES.get(place).copied(),
+            Width::Wide(turn) if place < WIDE_RANK => {
+                let bit = turn >> (place - RANK) & 1;
+                Some(0_u64.wrapping_sub(bit))
+            }
+            _ => None,
+        }
+    }
+}
 
 /// Some products of a node.
 #[derive(Drop)]
@@ -45,6 +70,7 @@ pub struct Window {
     pub basis: Vec<Vec<u32>>,
     pub known: Vec<Known>,
     pub own: u64,
+    pub width: Width,
     products: usize,
     read: usize,
 }
@@ -60,12 +86,19 @@ struct Written {
 impl Window {
     /// The window of a target with these nodes opened, which rise in the order; none where it would
     /// have more sums or products than it may.
-    pub fn of(graph: &Graph, work: &mut Work, target: &Target, opened: Vec<u32>) -> Option<Window> {
+    pub fn of(
+        graph: &Graph,
+        work: &mut Work,
+        target: &Target,
+        opened: Vec<u32>,
+        width: Width,
+    ) -> Option<Window> {
         let mut window = Window {
             opened,
             basis: Vec::new(work.alloc),
             known: Vec::new(work.alloc),
             own: 0,
+            width,
             products: 0,
             read: 0,
         };
@@ -184,7 +217,7 @@ impl Window {
         if left.is_empty() {
             return Some(word);
         }
-        let variable = VARIABLES.get(self.basis.len())?;
+        let variable = self.width.variable(self.basis.len())?;
         work.push(&mut self.basis, left);
         Some(word ^ variable)
     }
@@ -193,12 +226,12 @@ impl Window {
     pub fn over_basis(&self, work: &mut Work, symbols: Vec<u32>) -> (Vec<u32>, u64) {
         let mut left = symbols;
         let mut word = 0;
-        for (sum, variable) in self.basis.iter().zip(VARIABLES) {
+        for (place, sum) in self.basis.iter().enumerate() {
             if let Some(head) = sum.first()
                 && has_symbol(&left, *head)
             {
                 left = work.sum_of(&left, sum);
-                word ^= variable;
+                word ^= self.width.variable(place).unwrap_or(0);
             }
         }
         (left, word)
