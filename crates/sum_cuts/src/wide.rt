@@ -48,7 +48,7 @@ struct WideCut {
 
 impl WideCut {
     fn new(products: &Products, sums: Vec<Form>, nodes: u32) -> Result<WideCut, DdFault>
-        requires few { length sums.items ≤ 192 }
+        requires few { length sums.items ≤ MOST_WIDE }
         requires some { 1 ≤ nodes }
         ensures { IfOk result (AreWide products.now) }
     {
