@@ -136,7 +136,8 @@ assuming_made t one two three assumed count first others writes more firsts rest
       entries = es;
       claims = granted w cs ++ restricted w (length assumed_ones) (drop assumed t.claims);
     } in
-    let regrouped : (t.entries ++ (constants ++ met_links w 0 assumed_ones)) ++ failing_links w (length assumed_ones) (length assumed_ones) (drop assumed t.claims)
+    let regrouped : (t.entries ++ (constants ++ met_links w 0 assumed_ones))
+    ++ failing_links w (length assumed_ones) (length assumed_ones) (drop assumed t.claims)
     ≡ t.entries ++ (constants ++ (met_links w 0 assumed_ones ++ failing_links w (length assumed_ones) (length assumed_ones) (drop assumed t.claims))) =
     simp append_assoc in
     ap (λ (z : TapeView). record z { outputs = t.outputs }) put

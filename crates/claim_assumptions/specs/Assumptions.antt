@@ -1,5 +1,5 @@
--- The first claims of a tape taken for granted: the inputs on which they hold, as the bit of a tape,
--- and what the other claims say on these, as the claims of a tape.
+-- The first claims of a tape taken for granted: the inputs on which they hold, as the bit of a
+-- tape, and what the other claims say on these, as the claims of a tape.
 use Rattle.std.specs.Prelude.{ℕ, ◌+◌, ◌*◌, Bool, true, false, cond, not, List, [], ◌∷◌, ◌++◌, length, take, drop}
 use Rattle.std.specs.List.{AllByRecursion}
 use Rattle.revs_tape.specs.declared.tape.Claim.{Claim}

@@ -12,8 +12,8 @@ use revc_base::Memory;
 use revs_tape::Tape;
 use std::marker::Model;
 
-/// The nodes of a graph on which an output rests, renumbered in their order. Contracts see it as the
-/// number of inputs and the lists of nodes and outputs.
+/// The nodes of a graph on which an output rests, renumbered in their order. Contracts see it as
+/// the number of inputs and the lists of nodes and outputs.
 #[derive(Drop)]
 pub struct Settled {
     inputs: u32,

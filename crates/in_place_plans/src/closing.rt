@@ -5,8 +5,8 @@ use crate::task::{Step, Task};
 use crate::vectors::flip;
 use plan_tools::{Work, number};
 
-/// What is wanted behind so many steps: the constant, and the outputs and the factors of later steps
-/// so far as they are made of earlier ones.
+/// What is wanted behind so many steps: the constant, and the outputs and the factors of later
+/// steps so far as they are made of earlier ones.
 pub fn needed(work: &mut Work, task: &Task, steps: usize) -> Space {
     let mut wanted = Space::new(work);
     let mut one = work.filled(0, task.words);

@@ -17,7 +17,7 @@ const MOST_CLOSINGS: usize = 512;
 
 /// The gates of a circuit that puts the first so many outputs of a graph of single products on the
 /// lines of its inputs and on the lines behind these, where its other outputs are these bits. The
-/// lines are those of the inputs, then one for each output beyond their number, then the work lines.
+/// lines are those of the inputs, one for each output beyond their number, then the work lines.
 ///
 /// # Errors
 ///

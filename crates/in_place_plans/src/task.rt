@@ -19,8 +19,8 @@ pub struct Step {
     pub value: Vec<u64>,
 }
 
-/// The products of a graph in its order, and what is known of them: sums that are 0 are taken out of
-/// all vectors. The symbols are the products from the last to the first, then the inputs, and then
+/// The products of a graph in its order, and what is known of them: sums that are 0 are taken out
+/// of all vectors. The symbols are the products from the last to the first, then the inputs, and then
 /// the constant 1.
 #[derive(Drop)]
 pub struct Task {

@@ -1,5 +1,5 @@
--- `compile --outputs inputs`: the file of a circuit that puts a program's outputs on the lines of its
--- inputs.
+-- `compile --outputs inputs`: the file of a circuit that puts a program's outputs on the lines of
+-- its inputs.
 use Rattle.std.specs.Prelude.{◌≡◌, ℕ, ◌<◌, ◌≤◌, List, length}
 use Rattle.circuit_plans.specs.declared.roles.Placing.TheVariants.{InPlace}
 use Rattle.circuit_plans.specs.declared.roles.Roles.{Roles}

@@ -17,10 +17,10 @@ use revs_parser::MOST_BYTES;
 use std::alloc::Global;
 
 /// The plan of the clean file of a text's program, whose claims hold on the inputs that meet the
-/// first so many, within the budgets of an order. A text is refused exactly for its refusal, a claim
-/// stops exactly where it does, and that no input meets these exactly where none does; a budget is
-/// passed only where no row of the budget numbers that the order allows fits; no other fault comes
-/// but want of memory.
+/// first so many, within the budgets of an order. A text is refused exactly for its refusal, a
+/// claim stops exactly where it does, and that no input meets these exactly where none does; a
+/// budget is passed only where no row of the budget numbers that the order allows fits; no other
+/// fault comes but want of memory.
 pub fn compile(alloc: Global, text: &[u8], order: &Order) -> Result<Laid, Fault>
     requires short { length text.now ≤ MOST_BYTES }
     requires limits { IsWithinLimits (order_of order.now) }

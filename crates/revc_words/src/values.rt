@@ -69,8 +69,8 @@ fn number_or(text: Option<&str>, least: u32, most: u32, usual: u32) -> Option<u3
     }
 }
 
-// Where a text that is given to a command says that the outputs are, or the usual one where there is
-// no text.
+// Where a text that is given to a command says that the outputs are, or the usual one where there
+// is no text.
 fn placing_or(command: Command, text: Option<&str>, usual: Placing) -> Option<Placing>
     ensures { result ≡ value_or usual (placing_for command) (text_at text.entry) }
 {
