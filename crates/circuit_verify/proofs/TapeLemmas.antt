@@ -173,19 +173,19 @@ said_of_tapes t a s g is its c placing borrow limit =
     ∙ ap₂ (λ (value says : List Bool → List Bool). all (outputs_of t) value says) (fun_ext is.values) (fun_ext its.values) in
     record {
       not_comparable = λ why said. not_comparable_moved t.params (length s.nodes) (writes_of t) (node_function s) (write_function t) (outputs_of t)
-          (outputs_on t) (made_of t s is) t.params a.params (length g.nodes) (writes_of a) (node_function g) (write_function a) (length g.outputs) (outputs_of a)
-          (outputs_on a) (made_of a g its) c.lines c.limit c.limit c.gates placing borrow why
+          (outputs_on t) (made_of t s is) t.params a.params (length g.nodes) (writes_of a) (node_function g) (write_function a) (length g.outputs)
+          (outputs_of a) (outputs_on a) (made_of a g its) c.lines c.limit c.limit c.gates placing borrow why
           (subst (λ (q : Comparison). IsNotComparable q why) there said);
       comparable = λ said. comparable_moved t.params (length s.nodes) (writes_of t) (node_function s) (write_function t) (outputs_of t)
-          (outputs_on t) (made_of t s is) t.params a.params (length g.nodes) (writes_of a) (node_function g) (write_function a) (length g.outputs) (outputs_of a)
-          (outputs_on a) (made_of a g its) c.lines c.limit c.limit c.gates placing borrow
+          (outputs_on t) (made_of t s is) t.params a.params (length g.nodes) (writes_of a) (node_function g) (write_function a) (length g.outputs)
+          (outputs_of a) (outputs_on a) (made_of a g its) c.lines c.limit c.limit c.gates placing borrow
           (subst IsComparable there said);
       verified = λ said. verified_moved t.params (length s.nodes) (writes_of t) (node_function s) (write_function t) (outputs_of t)
-          (outputs_on t) (made_of t s is) t.params a.params (length g.nodes) (writes_of a) (node_function g) (write_function a) (length g.outputs) (outputs_of a)
-          (outputs_on a) (made_of a g its) c.lines c.limit c.limit c.gates placing borrow
+          (outputs_on t) (made_of t s is) t.params a.params (length g.nodes) (writes_of a) (node_function g) (write_function a) (length g.outputs)
+          (outputs_of a) (outputs_on a) (made_of a g its) c.lines c.limit c.limit c.gates placing borrow
           (subst IsVerified there said);
       refused = λ fault said. fault_moved t.params (length s.nodes) (writes_of t) (node_function s) (write_function t) (outputs_of t)
-          (outputs_on t) (made_of t s is) t.params a.params (length g.nodes) (writes_of a) (node_function g) (write_function a) (length g.outputs) (outputs_of a)
-          (outputs_on a) (made_of a g its) c.lines c.limit c.limit c.gates placing borrow limit fault
+          (outputs_on t) (made_of t s is) t.params a.params (length g.nodes) (writes_of a) (node_function g) (write_function a) (length g.outputs)
+          (outputs_of a) (outputs_on a) (made_of a g its) c.lines c.limit c.limit c.gates placing borrow limit fault
           (subst (λ (q : Comparison). IsVerifyFault q limit fault) there said);
     }

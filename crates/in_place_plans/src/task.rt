@@ -20,8 +20,8 @@ pub struct Step {
 }
 
 /// The products of a graph in its order, and what is known of them: sums that are 0 are taken out
-/// of all vectors. The symbols are the products from the last to the first, then the inputs, and then
-/// the constant 1.
+/// of all vectors. The symbols are the products from the last to the first, then the inputs, and
+/// then the constant 1.
 #[derive(Drop)]
 pub struct Task {
     pub words: usize,

@@ -1,5 +1,5 @@
-//! How a graph of sums of few inputs is left with fewer products by the values that its nodes have
-//! in all rows of these. Of none of it anything is promised.
+//! How a graph of sums is left with fewer products by the values that its nodes have in all rows of
+//! few inputs, and by the rank of one node's products. Of none of it anything is promised.
 #![tactic(auto)]
 
 mod echelon;
