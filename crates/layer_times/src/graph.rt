@@ -17,6 +17,17 @@ pub struct Node {
     /// The symbols of its bits, falling.
     pub bits: Vec<u32>,
     pub factors: Option<Factors>,
+    /// The output onto whose line it goes, for good; none where it takes a line of its own.
+    pub onto: Option<Onto>,
+    /// Its place in the graph of sums; none where it is no node of that, but a sum of some.
+    pub place: Option<u32>,
+}
+
+/// An output onto whose line a node goes, and the layer in which it does where it has a product.
+#[derive(Clone, Copy)]
+pub struct Onto {
+    pub output: u32,
+    pub layer: u32,
 }
 
 impl Node {
@@ -27,13 +38,16 @@ impl Node {
 }
 
 /// A graph of sums whose nodes have at most one product, and whose outputs have none. Symbols are
-/// the inputs, and then the nodes by their places.
+/// the inputs, then the nodes in their order, and then the outputs, which are nodes that go onto
+/// their lines.
 #[derive(Drop)]
 pub struct LayerGraph {
     pub inputs: u32,
+    /// The nodes, and behind them the outputs.
     pub nodes: Vec<Node>,
-    /// The symbols of each output, falling.
-    pub outputs: Vec<Vec<u32>>,
+    pub outputs: u32,
+    /// How many nodes the graph of sums has.
+    pub places: u32,
 }
 
 impl LayerGraph {
@@ -43,65 +57,90 @@ impl LayerGraph {
         let inputs = graph.inputs();
         let mut nodes = Vec::new(work.alloc);
         for place in 0..graph.nodes() {
-            let node = node_of(work, inputs, graph.node(place));
+            let mut node = node_of(work, inputs, graph.node(place), 1);
+            node.place = Some(place);
+            work.push(&mut nodes, node);
+        }
+        for (output, sum) in graph.outputs().iter().enumerate() {
+            let mut node = node_of(work, inputs, sum, 0);
+            node.onto = Some(Onto {
+                output: number(output),
+                layer: 0,
+            });
             work.push(&mut nodes, node);
         }
         LayerGraph {
             inputs,
             nodes,
-            outputs: outputs_of(work, inputs, graph.outputs()),
+            outputs: number(graph.outputs().len()),
+            places: graph.nodes(),
         }
     }
 
-    /// How many nodes there are.
-    pub fn count(&self) -> u32 {
-        number(self.nodes.len())
+    /// The symbol behind the last one.
+    pub fn symbols(&self) -> u32 {
+        self.inputs.saturating_add(number(self.nodes.len()))
     }
 
-    /// How many symbols there are.
-    pub fn symbols(&self) -> usize {
-        self.nodes.len().saturating_add(self.inputs as usize)
+    /// The symbol of the first output.
+    pub fn first_output(&self) -> u32 {
+        self.symbols().saturating_sub(self.outputs)
     }
 
     /// How many inputs and outputs there are.
     pub fn ports(&self) -> u32 {
-        self.inputs.saturating_add(number(self.outputs.len()))
+        self.inputs.saturating_add(self.outputs)
     }
 
-    /// The node at a place.
-    pub fn node(&self, place: u32) -> Option<&Node> {
-        self.nodes.get(place as usize)
+    /// The node of a symbol; none for an input.
+    pub fn node(&self, symbol: u32) -> Option<&Node> {
+        self.nodes.get(symbol.checked_sub(self.inputs)? as usize)
     }
 
-    /// The factors of the node at a place, where it has a product.
-    pub fn factors(&self, place: u32) -> Option<&Factors> {
-        match self.node(place) {
-            Some(node) => node.factors.as_ref(),
-            None => None,
-        }
+    /// The same, to be changed.
+    pub fn node_mut(&mut self, symbol: u32) -> Option<&mut Node> {
+        self.nodes
+            .get_mut(symbol.checked_sub(self.inputs)? as usize)
     }
 
-    /// The symbol of the node at a place.
-    pub fn symbol(&self, place: u32) -> u32 {
-        self.inputs.saturating_add(place)
-    }
-
-    /// The place of the node that has this symbol; none for an input.
-    pub fn place(&self, symbol: u32) -> Option<u32> {
-        symbol.checked_sub(self.inputs)
-    }
-
-    /// Whether the node at a place has no product.
-    pub fn is_linear(&self, place: u32) -> bool {
-        match self.node(place) {
+    /// Whether a symbol is that of a node or an output without a product.
+    pub fn is_linear(&self, symbol: u32) -> bool {
+        match self.node(symbol) {
             Some(node) => node.is_linear(),
             None => false,
         }
     }
+
+    /// The output onto whose line the node of a symbol goes.
+    pub fn onto(&self, symbol: u32) -> Option<Onto> {
+        self.node(symbol)?.onto
+    }
+
+    /// The factors of a node; empty ones where it has no product.
+    pub fn factors(&self, symbol: u32) -> [&[u32]; 2] {
+        let [_, first, second] = self.operands(symbol);
+        [first, second]
+    }
+
+    /// The bits of a node, and its factors, which are empty where it has no product.
+    pub fn operands(&self, symbol: u32) -> [&[u32]; 3] {
+        match self.node(symbol) {
+            Some(
+                Node {
+                    bits,
+                    factors: Some(factors),
+                    ..
+                },
+            ) => [bits, &factors.first, &factors.second],
+            Some(node) => [&node.bits, &[], &[]],
+            None => [&[], &[], &[]],
+        }
+    }
 }
 
-fn node_of(work: &mut Work, inputs: u32, sum: &Sum) -> Node {
-    if sum.products().len() > 1 {
+// The node of a sum that may have so many products.
+fn node_of(work: &mut Work, inputs: u32, sum: &Sum, most: usize) -> Node {
+    if sum.products().len() > most {
         work.give_up();
     }
     let factors = match sum.products().first() {
@@ -114,19 +153,9 @@ fn node_of(work: &mut Work, inputs: u32, sum: &Sum) -> Node {
     Node {
         bits: symbols_of(work, inputs, sum.bits()),
         factors,
+        onto: None,
+        place: None,
     }
-}
-
-fn outputs_of(work: &mut Work, inputs: u32, sums: &[Sum]) -> Vec<Vec<u32>> {
-    let mut outputs = Vec::new(work.alloc);
-    for sum in sums {
-        if !sum.products().is_empty() {
-            work.give_up();
-        }
-        let symbols = symbols_of(work, inputs, sum.bits());
-        work.push(&mut outputs, symbols);
-    }
-    outputs
 }
 
 // The symbols of bits, falling.

@@ -2,22 +2,22 @@
 //! node as late as its users let it be made, and cleared as soon as they are done with it.
 #![tactic(auto)]
 
-mod agenda;
 mod cleaning;
 mod graph;
-mod levels;
+mod grouping;
 mod needs;
 mod parts;
 mod progress;
 mod room;
 mod scheduling;
 mod search;
+mod straight;
+mod tables;
 mod times;
-mod wants;
 
-pub use agenda::{Agenda, Demand, Layer};
-pub use cleaning::Left;
-pub use graph::{Factors, LayerGraph, Node};
-pub use search::{Timetable, best_timetable};
-pub use times::{End, Times};
-pub use wants::Wants;
+pub use cleaning::{Clearing, Left};
+pub use graph::{Factors, LayerGraph, Node, Onto};
+pub use room::Room;
+pub use scheduling::{Demand, Layer, Timetable};
+pub use search::{Found, best_timetable};
+pub use straight::straighten;

@@ -1,11 +1,15 @@
 // A list schedule of nodes within a limit of lines.
-use crate::cleaning::{Clearing, NEVER};
-use crate::graph::{Factors, LayerGraph};
+use crate::cleaning::Clearing;
+use crate::graph::LayerGraph;
 use crate::needs::Needs;
 use crate::progress::Progress;
 use crate::room::Room;
-use crate::times::{End, Times};
-use plan_tools::{Table, Work, list_at, number};
+use crate::times::Times;
+use plan_tools::{Table, Work, number};
+use std::mem;
+
+// The time of what is not done.
+const NEVER: u32 = u32::MAX;
 
 // How many work lines stay free for the factors of nodes that are cleared.
 const RESERVE: u32 = 1;
@@ -13,152 +17,199 @@ const RESERVE: u32 = 1;
 // How many nodes of a layer are refused a line before the others are not asked for.
 const MOST_REFUSED: u32 = 16;
 
+/// What is done at a boundary, and then in the layer behind it.
+#[derive(Drop)]
+pub struct Layer {
+    /// The nodes that are there from the boundary on: those without a product, which are made now,
+    /// outputs among them, and those that were made in the layer before.
+    pub arrivals: Vec<u32>,
+    /// The nodes without a product that are cleared.
+    pub departures: Vec<u32>,
+    /// The nodes that are made in the layer.
+    pub made: Vec<u32>,
+    /// Those that are cleared in it.
+    pub cleared: Vec<u32>,
+}
+
+impl Layer {
+    fn empty(work: &Work) -> Layer {
+        Layer {
+            arrivals: Vec::new(work.alloc),
+            departures: Vec::new(work.alloc),
+            made: Vec::new(work.alloc),
+            cleared: Vec::new(work.alloc),
+        }
+    }
+}
+
+/// What a plan comes to. The better of two is the one that comes to less, at the first of these
+/// numbers where they differ.
+#[derive(Clone, Copy, PartialEq, Eq, PartialOrd, Ord)]
+pub struct Demand {
+    /// The layers that have Toffoli gates.
+    pub layers: u32,
+    pub toffoli: u64,
+    /// The work lines.
+    pub lines: u32,
+}
+
+/// When what is done, and what that comes to.
+#[derive(Drop)]
+pub struct Timetable {
+    /// The layers, which count from 1.
+    pub layers: Vec<Layer>,
+    /// Of each node the layer in which it is made, or the boundary where it has no product.
+    pub on: Table<u32>,
+    /// Of each symbol the first boundary at which it is there, with all its bits.
+    pub there: Table<u32>,
+    pub demand: Demand,
+}
+
 /// Within what a schedule stays.
 #[derive(Clone, Copy)]
 pub struct Limit<'l> {
-    /// Of each node its part.
+    /// Of each symbol its part.
     pub parts: &'l Table<u32>,
     /// The most work lines.
-    pub most: u32,
-    /// How many parts, from the first one on that is not done, may have nodes made.
-    pub window: u32,
+    pub lines: u32,
+    /// The most layers.
+    pub layers: u32,
+    /// How many parts, from the first one on that is not done, may have nodes made, where these
+    /// leave lines to the first one; any parts, in any order, where it is none.
+    pub window: Option<u32>,
 }
 
 // Layers in the making.
 #[derive(Drop)]
 struct Schedule<'s> {
     graph: &'s LayerGraph,
-    latest: &'s Times,
     limit: Limit<'s>,
     room: Room,
     needs: Needs<'s>,
-    progress: Progress,
+    progress: Progress<'s>,
     /// The boundary, and the layer behind it.
     now: u32,
-    /// The nodes and outputs whose latest times are at most this one are due.
+    /// The nodes whose latest times are below this one are due.
     front: u32,
-    /// By their latest times the nodes, and the outputs.
-    nodes: Vec<Vec<u32>>,
-    outputs: Vec<Vec<u32>>,
+    /// By their latest times the nodes that are not due.
+    dues: Vec<Vec<u32>>,
     /// What is due and not done: nodes that come at a boundary, those without a product or products
-    /// that lack bits; products; outputs.
+    /// that lack bits; and products.
     arriving: Vec<u32>,
     making: Vec<u32>,
-    ending: Vec<u32>,
-    /// The nodes that are made and cleared in the layer.
-    made: Vec<u32>,
-    cleared: Vec<u32>,
-    /// Whether anything was done in this round.
-    has_moved: bool,
-    on: Table<u32>,
-    there: Table<u32>,
-    off: Table<u32>,
-    boundaries: Table<u32>,
     /// Of each output the last layer in which a product went onto its line.
     onto: Table<u32>,
+    /// Whether anything was done in this round.
+    has_moved: bool,
+    layer: Layer,
+    table: Timetable,
 }
 
-/// The times at which nodes are made and cleared within a limit of lines, where what is due waits
-/// until there are lines for it; none where nothing goes on.
+/// The times at which nodes are made and cleared within a limit, each node as late as its latest
+/// time, or later where it waits for a line; none where nothing goes on, or that takes too many
+/// layers.
 pub fn schedule_within(
     work: &mut Work,
     graph: &LayerGraph,
     latest: &Times,
     clearing: &Clearing,
     limit: Limit<'_>,
-) -> Option<(Times, Table<u32>)> {
+) -> Option<Timetable> {
     let mut schedule = Schedule::new(work, graph, latest, clearing, limit);
-    schedule.put_dues(work);
-    schedule.advance(work);
-    let most = graph.symbols().saturating_mul(4).saturating_add(64);
-    for _ in 0..most {
+    for _ in 0..graph.symbols().saturating_mul(4) {
         schedule.round(work);
-        if schedule.is_done() || !schedule.has_moved || work.is_stopped() {
-            break;
+        if schedule.is_done() {
+            return Some(schedule.table);
+        }
+        let layers = schedule.table.demand.layers;
+        if !schedule.has_moved || layers > limit.layers || work.is_stopped() {
+            return None;
         }
     }
-    schedule.finish(work)
+    None
 }
 
 impl<'s> Schedule<'s> {
     fn new(
         work: &mut Work,
         graph: &'s LayerGraph,
-        latest: &'s Times,
+        latest: &Times,
         clearing: &'s Clearing,
         limit: Limit<'s>,
     ) -> Schedule<'s> {
-        let count = graph.nodes.len();
-        let boundaries = latest.depth as usize + 2;
-        let needs = Needs::of(work, graph, latest, clearing);
+        let count = graph.symbols() as usize;
+        let table = Timetable {
+            layers: Vec::new(work.alloc),
+            on: Table::new(work, count, NEVER),
+            there: there_first(work, graph),
+            demand: Demand {
+                layers: 0,
+                toffoli: 0,
+                lines: 0,
+            },
+        };
         Schedule {
             graph,
-            latest,
             limit,
             room: Room::new(work, graph.symbols()),
-            progress: Progress::of(work, &needs, limit.parts),
-            needs,
+            needs: Needs::of(work, graph, clearing),
+            progress: Progress::of(work, graph, clearing, limit.parts),
             now: 0,
             front: 0,
-            nodes: work.lists(boundaries),
-            outputs: work.lists(boundaries),
+            dues: dues_of(work, graph, latest),
             arriving: Vec::new(work.alloc),
             making: Vec::new(work.alloc),
-            ending: Vec::new(work.alloc),
-            made: Vec::new(work.alloc),
-            cleared: Vec::new(work.alloc),
+            onto: Table::new(work, graph.outputs as usize, 0),
             has_moved: false,
-            on: Table::new(work, count, NEVER),
-            there: Table::new(work, count, NEVER),
-            off: Table::new(work, count, NEVER),
-            boundaries: Table::new(work, latest.ends.len(), NEVER),
-            onto: Table::new(work, latest.ends.len(), 0),
+            layer: Layer::empty(work),
+            table,
         }
     }
 
-    // Puts nodes and outputs by their latest times.
-    fn put_dues(&mut self, work: &mut Work) {
-        let latest = self.latest;
-        for (place, time) in latest.on.items().iter().enumerate() {
-            push_at(work, &mut self.nodes, *time, number(place));
+    // A boundary, and the layer behind it.
+    fn round(&mut self, work: &mut Work) {
+        self.has_moved = false;
+        self.advance(work);
+        self.now = self.now.saturating_add(1);
+        self.room.advance();
+        self.arrive_all(work);
+        self.note_lines();
+        self.depart_all(work);
+        if !self.is_done() {
+            self.ask_all(work);
+            self.clear_all(work);
+            self.make_all(work);
+            self.note_lines();
         }
-        self.put_outputs(work);
-    }
-
-    fn put_outputs(&mut self, work: &mut Work) {
-        let latest = self.latest;
-        for (output, end) in latest.ends.iter().enumerate() {
-            push_at(work, &mut self.outputs, end.boundary, number(output));
-        }
+        self.finish_layer(work);
     }
 
     // What is due next, once all products that were due are made.
     fn advance(&mut self, work: &mut Work) {
-        if self.is_open() || self.front as usize >= self.nodes.len() {
+        if self.is_open() {
             return;
         }
-        self.has_moved = true;
-        let due = work.copy(list_at(&self.nodes, self.front));
-        for place in &due {
-            self.fall_due(work, *place);
-        }
-        work.append(&mut self.ending, list_at(&self.outputs, self.front));
-        self.making.sort_unstable();
+        let Some(due) = self.dues.get_mut(self.front as usize) else {
+            return;
+        };
+        let due = work.take(due);
         self.front = self.front.saturating_add(1);
-    }
-
-    fn fall_due(&mut self, work: &mut Work, place: u32) {
-        if self.graph.is_linear(place) {
-            work.push(&mut self.arriving, place);
-        } else {
-            work.push(&mut self.making, place);
+        self.has_moved = true;
+        for symbol in &due {
+            let list = if self.graph.is_linear(*symbol) {
+                &mut self.arriving
+            } else {
+                &mut self.making
+            };
+            work.push(list, *symbol);
         }
+        self.making.sort_unstable();
     }
 
     // Whether a product is due that may be made now.
     fn is_open(&self) -> bool {
-        for place in &self.making {
-            if self.is_in_window(*place) {
+        for symbol in &self.making {
+            if self.is_in_window(*symbol) {
                 return true;
             }
         }
@@ -166,56 +217,56 @@ impl<'s> Schedule<'s> {
     }
 
     // Whether nodes of a node's part may be made now.
-    fn is_in_window(&self, place: u32) -> bool {
-        let behind = self.progress.first.saturating_add(self.limit.window);
-        self.limit.parts.get(place) < behind
+    fn is_in_window(&self, symbol: u32) -> bool {
+        match self.limit.window {
+            Some(window) => {
+                let behind = self.progress.first.saturating_add(window);
+                self.limit.parts.get(symbol) < behind
+            }
+            None => true,
+        }
     }
 
     // Whether nothing is left to be made.
     fn is_done(&self) -> bool {
-        self.front as usize >= self.nodes.len()
-            && self.arriving.is_empty()
-            && self.making.is_empty()
-            && self.ending.is_empty()
-    }
-
-    // A boundary, and the layer behind it.
-    fn round(&mut self, work: &mut Work) {
-        self.has_moved = false;
-        self.now = self.now.saturating_add(1);
-        self.room.advance();
-        self.arrive_all(work);
-        self.end_all(work);
-        self.depart_all(work);
-        if !self.is_done() {
-            self.ask_all(work);
-            self.clear_all(work);
-            self.make_all(work);
-            self.finish_layer(work);
-        }
-        self.advance(work);
+        self.front as usize >= self.dues.len() && self.arriving.is_empty() && self.making.is_empty()
     }
 
     fn is_there(&self, symbols: &[u32]) -> bool {
-        for symbol in symbols {
-            if let Some(place) = self.graph.place(*symbol)
-                && self.there.get(place) > self.now
-            {
-                return false;
-            }
-        }
-        true
+        symbols
+            .iter()
+            .all(|symbol| self.table.there.get(*symbol) <= self.now)
     }
 
-    // Whether a node of a part may take so many lines, and leave what others want.
-    fn has_room(&self, place: u32, lines: u32) -> bool {
-        let part = self.limit.parts.get(place);
-        let others = self.progress.kept_free(part).saturating_add(RESERVE);
-        let all = self
-            .room
-            .lines()
-            .saturating_add(lines.saturating_add(others));
-        all <= self.limit.most && self.is_in_window(place)
+    fn are_factors_there(&self, symbol: u32) -> bool {
+        let [first, second] = self.graph.factors(symbol);
+        self.is_there(first) && self.is_there(second)
+    }
+
+    // Whether a node may take so many lines, and leave what others want.
+    fn has_room(&self, symbol: u32, lines: u32) -> bool {
+        let mut others = RESERVE;
+        if self.limit.window.is_some() {
+            others = others.saturating_add(self.progress.kept_free(symbol));
+        }
+        self.is_within(lines.saturating_add(others)) && self.is_in_window(symbol)
+    }
+
+    // Whether there are so many lines.
+    fn is_within(&self, lines: u32) -> bool {
+        self.room.lines().saturating_add(lines) <= self.limit.lines
+    }
+
+    // How many lines nodes without a product leave to the factors of products that can be cleared,
+    // which makes lines free.
+    fn clearing_lines(&self) -> u32 {
+        number(self.needs.products.len())
+    }
+
+    // Notes the lines that are taken now.
+    fn note_lines(&mut self) {
+        let demand = &mut self.table.demand;
+        demand.lines = demand.lines.max(self.room.lines());
     }
 
     // ---- at the boundary
@@ -224,59 +275,46 @@ impl<'s> Schedule<'s> {
         let mut arriving = work.take(&mut self.arriving);
         work.spend(arriving.len() as u64);
         arriving.sort_unstable();
-        for place in &arriving {
-            if !self.arrives(work, *place) {
-                work.push(&mut self.arriving, *place);
+        for symbol in &arriving {
+            if !self.arrives(work, *symbol) {
+                work.push(&mut self.arriving, *symbol);
             }
         }
     }
 
     // Whether a node is there now.
-    fn arrives(&mut self, work: &mut Work, place: u32) -> bool {
+    fn arrives(&mut self, work: &mut Work, symbol: u32) -> bool {
         let graph = self.graph;
-        let Some(node) = graph.node(place) else {
+        let Some(node) = graph.node(symbol) else {
             return true;
         };
-        if !self.is_there(&node.bits) || node.is_linear() && !self.has_room(place, 1) {
+        let takes_line = node.is_linear() && node.onto.is_none();
+        let lines = self.clearing_lines().saturating_add(1);
+        if !self.is_there(&node.bits) || takes_line && !self.has_room(symbol, lines) {
             return false;
         }
         self.has_moved = true;
-        self.there.set(place, self.now);
-        if node.is_linear() {
-            self.room.hold(1);
-            self.on.set(place, self.now);
-            self.progress.note_made(self.limit.parts.get(place));
+        self.table.there.set(symbol, self.now);
+        if takes_line {
+            self.room.held = self.room.held.saturating_add(1);
+            self.table.on.set(symbol, self.now);
+            self.progress.note_made(symbol);
         }
-        self.needs.pass_bits(work, place);
+        self.needs.pass_bits(work, symbol);
+        work.push(&mut self.layer.arrivals, symbol);
         true
-    }
-
-    fn end_all(&mut self, work: &mut Work) {
-        let latest = self.latest;
-        let ending = work.take(&mut self.ending);
-        work.spend(ending.len() as u64);
-        for output in &ending {
-            match latest.ends.get(*output as usize) {
-                Some(end) if self.is_there(&end.bits) => {
-                    self.has_moved = true;
-                    self.boundaries.set(*output, self.now);
-                    self.needs.pass(work, &end.bits);
-                }
-                _ => work.push(&mut self.ending, *output),
-            }
-        }
     }
 
     // Clears nodes without products.
     fn depart_all(&mut self, work: &mut Work) {
         for _ in 0..self.graph.nodes.len() {
-            let Some(place) = self.needs.linear.pop() else {
+            let Some(symbol) = self.needs.linear.pop() else {
                 return;
             };
             self.has_moved = true;
-            self.off.set(place, self.now);
-            self.room.let_go(1);
-            self.needs.pass_clearing(work, place);
+            self.room.held = self.room.held.saturating_sub(1);
+            self.needs.pass_clearing(work, symbol);
+            work.push(&mut self.layer.departures, symbol);
         }
     }
 
@@ -284,159 +322,122 @@ impl<'s> Schedule<'s> {
 
     // Asks for what all nodes that can be made or cleared want.
     fn ask_all(&mut self, work: &mut Work) {
-        for place in &self.needs.products {
-            if let Some(factors) = self.graph.factors(*place) {
-                self.room.ask(factors);
-            }
-        }
+        self.room.ask_all(self.graph, &self.needs.products);
         let making = work.copy(&self.making);
         self.ask_made(&making);
     }
 
     fn ask_made(&mut self, making: &[u32]) {
         let graph = self.graph;
-        for place in making {
-            match graph.factors(*place) {
-                Some(factors) if self.are_there(factors) => self.room.ask(factors),
-                _ => {}
+        for symbol in making {
+            if self.are_factors_there(*symbol) {
+                self.room.ask_all(graph, &[*symbol]);
             }
         }
-    }
-
-    fn are_there(&self, factors: &Factors) -> bool {
-        self.is_there(&factors.first) && self.is_there(&factors.second)
     }
 
     fn clear_all(&mut self, work: &mut Work) {
         let ready = work.take(&mut self.needs.products);
         work.spend(ready.len() as u64);
-        for place in &ready {
-            if self.clears(*place) {
-                work.push(&mut self.cleared, *place);
+        for symbol in &ready {
+            let factors = self.graph.factors(*symbol);
+            if self.is_within(self.room.wanted(factors)) {
+                self.room.take(factors);
+                work.push(&mut self.layer.cleared, *symbol);
             } else {
-                work.push(&mut self.needs.products, *place);
+                work.push(&mut self.needs.products, *symbol);
             }
         }
     }
 
-    // Whether a product is cleared in the layer.
-    fn clears(&mut self, place: u32) -> bool {
-        let graph = self.graph;
-        let Some(factors) = graph.factors(place) else {
-            return false;
-        };
-        let lines = self.room.lines().saturating_add(self.room.wanted(factors));
-        if lines > self.limit.most {
-            return false;
-        }
-        self.room.take(factors);
-        self.off.set(place, self.now);
-        true
-    }
-
     fn make_all(&mut self, work: &mut Work) {
-        let graph = self.graph;
         let making = work.take(&mut self.making);
         let mut refused: u32 = 0;
         work.spend(making.len() as u64);
-        for place in &making {
-            match graph.factors(*place) {
-                Some(factors) if refused < MOST_REFUSED && self.are_there(factors) => {
-                    if !self.makes(work, *place, factors) {
-                        refused = refused.saturating_add(1);
-                        work.push(&mut self.making, *place);
-                    }
-                }
-                _ => work.push(&mut self.making, *place),
+        for symbol in &making {
+            let is_ready = refused < MOST_REFUSED && self.are_factors_there(*symbol);
+            if !is_ready || !self.makes(work, *symbol) {
+                refused = refused.saturating_add(u32::from(is_ready));
+                work.push(&mut self.making, *symbol);
             }
         }
     }
 
     // Whether a product is made in the layer.
-    fn makes(&mut self, work: &mut Work, place: u32, factors: &Factors) -> bool {
+    fn makes(&mut self, work: &mut Work, symbol: u32) -> bool {
+        let factors = self.graph.factors(symbol);
         let wanted = self.room.wanted(factors);
-        let is_made = match self.latest.straight.get(place) {
-            Some(output) => self.goes_onto(output, wanted),
-            None => self.takes_line(work, place, wanted),
+        let is_made = match self.graph.onto(symbol) {
+            Some(onto) => self.goes_onto(onto.output, wanted),
+            None => self.takes_line(work, symbol, wanted),
         };
         if is_made {
             self.room.take(factors);
-            self.on.set(place, self.now);
-            self.progress.note_made(self.limit.parts.get(place));
-            work.push(&mut self.made, place);
+            self.table.on.set(symbol, self.now);
+            self.progress.note_made(symbol);
+            work.push(&mut self.layer.made, symbol);
         }
         is_made
     }
 
     // Whether a product whose factors want so many lines goes onto the line of an output.
     fn goes_onto(&mut self, output: u32, wanted: u32) -> bool {
-        let lines = self.room.lines().saturating_add(wanted);
-        if self.onto.get(output) == self.now || lines > self.limit.most {
+        if self.onto.get(output) == self.now || !self.is_within(wanted) {
             return false;
         }
         self.onto.set(output, self.now);
+        self.table.demand.toffoli = self.table.demand.toffoli.saturating_add(1);
         true
     }
 
     // Whether a product whose factors want so many lines gets one of its own.
-    fn takes_line(&mut self, work: &mut Work, place: u32, wanted: u32) -> bool {
-        if !self.has_room(place, wanted.saturating_add(1)) {
+    fn takes_line(&mut self, work: &mut Work, symbol: u32, wanted: u32) -> bool {
+        if !self.has_room(symbol, wanted.saturating_add(1)) {
             return false;
         }
-        self.room.hold(1);
-        work.push(&mut self.arriving, place);
+        self.room.held = self.room.held.saturating_add(1);
+        self.table.demand.toffoli = self.table.demand.toffoli.saturating_add(2);
+        work.push(&mut self.arriving, symbol);
         true
     }
 
     fn finish_layer(&mut self, work: &mut Work) {
-        let (made, cleared) = (work.take(&mut self.made), work.take(&mut self.cleared));
-        self.has_moved |= !made.is_empty() || !cleared.is_empty();
-        for place in &made {
-            self.needs.pass_factors(work, *place);
+        let layer = mem::replace(&mut self.layer, Layer::empty(work));
+        for symbol in &layer.made {
+            self.needs.pass_factors(work, *symbol);
         }
-        self.finish_cleared(work, &cleared);
-    }
-
-    fn finish_cleared(&mut self, work: &mut Work, cleared: &[u32]) {
-        for place in cleared {
-            self.room.let_go(1);
-            self.progress.note_done(self.limit.parts.get(*place));
-            self.needs.pass_clearing(work, *place);
+        for symbol in &layer.cleared {
+            self.room.held = self.room.held.saturating_sub(1);
+            self.progress.note_done(*symbol);
+            self.needs.pass_clearing(work, *symbol);
         }
-    }
-
-    // ---- the end
-
-    fn finish(&self, work: &mut Work) -> Option<(Times, Table<u32>)> {
-        if !self.is_done() {
-            return None;
+        let demand = &mut self.table.demand;
+        let cleared = layer.cleared.len() as u64;
+        demand.toffoli = demand.toffoli.saturating_add(cleared.saturating_mul(2));
+        if cleared > 0 || !layer.made.is_empty() {
+            demand.layers = demand.layers.saturating_add(1);
+            self.has_moved = true;
         }
-        let times = Times {
-            depth: self.now.saturating_sub(1),
-            on: self.on.copy(work),
-            there: self.there.copy(work),
-            straight: self.latest.straight.copy(work),
-            ends: self.ends(work),
-        };
-        Some((times, self.off.copy(work)))
-    }
-
-    // The outputs, each at the boundary at which it was added to its line.
-    fn ends(&self, work: &mut Work) -> Vec<End> {
-        let mut ends = Vec::new(work.alloc);
-        for (end, boundary) in self.latest.ends.iter().zip(self.boundaries.items()) {
-            let end = End {
-                bits: work.copy(&end.bits),
-                boundary: *boundary,
-            };
-            work.push(&mut ends, end);
-        }
-        ends
+        work.push(&mut self.table.layers, layer);
     }
 }
 
-fn push_at(work: &mut Work, lists: &mut [Vec<u32>], place: u32, item: u32) {
-    if let Some(list) = lists.get_mut(place as usize) {
-        work.push(list, item);
+// When each symbol is there before anything is made: inputs are.
+fn there_first(work: &mut Work, graph: &LayerGraph) -> Table<u32> {
+    let mut there = Table::new(work, graph.symbols() as usize, NEVER);
+    for input in 0..graph.inputs {
+        there.set(input, 0);
     }
+    there
+}
+
+// The nodes by their latest times.
+fn dues_of(work: &mut Work, graph: &LayerGraph, latest: &Times) -> Vec<Vec<u32>> {
+    let mut dues = work.lists(latest.depth as usize + 2);
+    for symbol in graph.inputs..graph.symbols() {
+        if let Some(due) = dues.get_mut(latest.on.get(symbol) as usize) {
+            work.push(due, symbol);
+        }
+    }
+    dues
 }

@@ -1,9 +1,9 @@
 // The best of the plans that clean so many parts.
-use crate::agenda::{Agenda, Demand};
-use crate::cleaning::{Plan, clearing_of};
+use crate::cleaning::{Clearing, Plan};
 use crate::graph::LayerGraph;
+use crate::grouping::{Parted, grouped};
 use crate::parts::Widths;
-use crate::scheduling::{Limit, schedule_within};
+use crate::scheduling::{Demand, Limit, Timetable, schedule_within};
 use crate::times::Times;
 use plan_tools::Work;
 
@@ -12,8 +12,14 @@ const COUNTS: [u32; 17] = [
     2, 3, 4, 5, 6, 8, 10, 12, 16, 20, 24, 32, 40, 48, 64, 96, 128,
 ];
 
-// In how many parts nodes may be made at a time, where lines are short.
-const WINDOWS: [u32; 3] = [1_000, 2, 1];
+// In what order ways are tried, each where those before it take more layers than there are levels.
+const WAYS: [Way; 5] = [
+    Way::Apart,
+    Way::Grouped,
+    Way::Within(1_000),
+    Way::Within(2),
+    Way::Within(1),
+];
 
 // In how many symbols nodes without a product are written out, at first, and where that is better.
 const LEFT: usize = 8;
@@ -23,27 +29,63 @@ const MORE_LEFT: usize = 16;
 // How often half of the parts that may be cleaned are left out.
 const HALVINGS: u32 = 7;
 
-/// When what is done, and what that comes to.
+/// A timetable, the graph of which it is, and what is cleared in it.
 #[derive(Drop)]
-pub struct Timetable {
-    pub times: Times,
-    pub agenda: Agenda,
-    pub demand: Demand,
+pub struct Found {
+    pub graph: LayerGraph,
+    pub table: Timetable,
+    pub clearing: Clearing,
 }
 
-// How many parts there are, how many of them are cleaned, and in how many nodes are made at a time,
-// none where nodes are made at their latest times; and in how many symbols they are written out.
+// How nodes are made.
+#[derive(Clone, Copy)]
+enum Way {
+    /// Those of any part at a time.
+    Apart,
+    /// The same, where symbols that later parts use together are grouped.
+    Grouped,
+    /// Those of so many parts at a time, which leave lines to the first one; grouped too.
+    Within(u32),
+}
+
+impl Way {
+    fn window(self) -> Option<u32> {
+        match self {
+            Way::Apart | Way::Grouped => None,
+            Way::Within(window) => Some(window),
+        }
+    }
+
+    // How many of so many parts are not cleaned.
+    fn kept(self, count: u32) -> [u32; 3] {
+        match self {
+            Way::Apart | Way::Grouped => [1, 2, count / 4],
+            Way::Within(_) => [1, 0, 2],
+        }
+    }
+
+    // How many of so many parts that are cleaned have symbols grouped.
+    fn grouped(self, cleaned: u32) -> u32 {
+        match self {
+            Way::Apart => 0,
+            Way::Grouped | Way::Within(_) => cleaned,
+        }
+    }
+}
+
+// How many parts there are, how many of them are cleaned, how nodes are made; and in how many
+// symbols they are written out.
 #[derive(Clone, Copy)]
 struct Choice {
     count: u32,
     cleaned: u32,
-    window: Option<u32>,
+    way: Way,
     left: usize,
 }
 
 // A choice, and what its plan comes to.
 #[derive(Clone, Copy)]
-struct Found {
+struct Best {
     demand: Demand,
     choice: Choice,
 }
@@ -51,33 +93,28 @@ struct Found {
 #[derive(Drop)]
 struct Search<'s> {
     graph: &'s LayerGraph,
-    times: &'s Times,
+    /// How many layers there are at least.
+    depth: u32,
     widths: Widths,
     /// The most work lines.
     most: u32,
-    best: Option<Found>,
+    best: Option<Best>,
 }
 
-/// The timetable of the best plan that is found of at most so many work lines: nothing is cleaned
-/// but nodes without a product, or, where that takes too many lines, as many parts as are needed;
-/// and where none of these plans fits, nodes wait for lines. The work gives up where no plan has
-/// few enough lines.
-pub fn best_timetable(
-    work: &mut Work,
-    graph: &LayerGraph,
-    times: &Times,
-    most: u32,
-) -> Option<Timetable> {
+/// The best plan that is found of at most so many work lines: nothing is cleaned but nodes without
+/// a product, or, where that takes too many lines, as many parts as are needed. The work gives up
+/// where no plan has few enough lines.
+pub fn best_timetable(work: &mut Work, graph: &LayerGraph, most: u32) -> Option<Found> {
     let mut search = Search {
         graph,
-        times,
+        depth: Times::of(work, graph).depth,
         widths: Widths::of(work, graph),
         most,
         best: None,
     };
     search.try_all(work);
     match search.best {
-        Some(found) => search.timetable(work, found.choice),
+        Some(best) => search.found(work, best.choice),
         None => {
             work.give_up();
             None
@@ -90,78 +127,46 @@ impl Search<'_> {
         let whole = Choice {
             count: 1,
             cleaned: 0,
-            window: None,
+            way: Way::Apart,
             left: LEFT,
         };
-        if !self.fits(work, whole) {
-            self.try_counts(work);
-            self.try_windows(work);
-            self.clean_less(work, LEFT);
+        self.fits(work, whole);
+        for way in WAYS {
+            self.try_way(work, way);
         }
-        self.leave_more(work);
-    }
-
-    fn try_counts(&mut self, work: &mut Work) {
-        for count in COUNTS {
-            self.try_count(work, count);
+        self.clean_less(work, LEFT);
+        if let Some(Best { choice, .. }) = self.best {
+            let left = MORE_LEFT;
+            self.fits(work, Choice { left, ..choice });
+            self.clean_less(work, left);
         }
     }
 
-    fn try_windows(&mut self, work: &mut Work) {
-        for window in WINDOWS {
-            self.try_window(work, window);
-        }
-    }
-
-    // Cleans all parts but the last one or two, or three quarters of them.
-    fn try_count(&mut self, work: &mut Work, count: u32) {
-        for kept in [1, 2, count / 4] {
-            let choice = Choice {
-                count,
-                cleaned: count.saturating_sub(kept),
-                window: None,
-                left: LEFT,
-            };
-            let _fits = self.fits(work, choice);
-        }
-    }
-
-    // Has nodes wait for lines, unless a plan was found before.
-    fn try_window(&mut self, work: &mut Work, window: u32) {
-        if self.best.is_some() {
+    // Cleans most parts, unless a plan of as few layers as can be was found another way.
+    fn try_way(&mut self, work: &mut Work, way: Way) {
+        if self
+            .best
+            .is_some_and(|best| best.demand.layers <= self.depth)
+        {
             return;
         }
         for count in COUNTS {
-            self.try_waiting(work, count, window);
-        }
-    }
-
-    // Cleans all parts, or all but the last one.
-    fn try_waiting(&mut self, work: &mut Work, count: u32, window: u32) {
-        for kept in [1, 0] {
-            let choice = Choice {
-                count,
-                cleaned: count.saturating_sub(kept),
-                window: Some(window),
-                left: LEFT,
-            };
-            let _fits = self.fits(work, choice);
-        }
-    }
-
-    // Writes nodes out in more symbols than the best choice has it.
-    fn leave_more(&mut self, work: &mut Work) {
-        if let Some(Found { choice, .. }) = self.best {
-            let left = MORE_LEFT;
-            let _fits = self.fits(work, Choice { left, ..choice });
-            self.clean_less(work, left);
+            for kept in way.kept(count) {
+                let choice = Choice {
+                    count,
+                    cleaned: count.saturating_sub(kept),
+                    way,
+                    left: LEFT,
+                };
+                self.fits(work, choice);
+            }
         }
     }
 
     // Cleans as few parts of the best choice as can be, where nodes are written out in so many
     // symbols.
     fn clean_less(&mut self, work: &mut Work, left: usize) {
-        let Some(Found { choice, .. }) = self.best else {
+        let Some(Best { choice, .. }) = self.best else {
             return;
         };
         let choice = Choice { left, ..choice };
@@ -183,50 +188,43 @@ impl Search<'_> {
     // Where it is better, it is the best one.
     fn fits(&mut self, work: &mut Work, choice: Choice) -> bool {
         work.spend(self.graph.nodes.len() as u64);
-        if work.is_stopped() {
-            return false;
-        }
-        let Some(table) = self.timetable(work, choice) else {
+        let Some(Found { table, .. }) = self.found(work, choice) else {
             return false;
         };
         let demand = table.demand;
-        if demand.lines > self.most {
-            return false;
+        if self.best.is_none_or(|best| demand < best.demand) {
+            self.best = Some(Best { demand, choice });
         }
-        let best = self.best;
-        if best.is_none_or(|best| demand < best.demand) {
-            self.best = Some(Found { demand, choice });
-        }
-        best.is_none_or(|best| demand.layers <= best.demand.layers)
+        true
     }
 
-    fn timetable(&self, work: &mut Work, choice: Choice) -> Option<Timetable> {
-        let parts = self.widths.parts(work, choice.count);
+    fn found(&self, work: &mut Work, choice: Choice) -> Option<Found> {
+        let parts = self.widths.parts(work, self.graph, choice.count);
+        let Parted { graph, parts } = grouped(
+            work,
+            self.graph,
+            &parts,
+            choice.way.grouped(choice.cleaned),
+        );
         let plan = Plan {
             parts: &parts,
             cleaned: choice.cleaned,
             left: choice.left,
         };
-        let mut clearing = clearing_of(work, self.graph, self.times, plan);
-        let times = match choice.window {
-            Some(window) => {
-                let limit = Limit {
-                    parts: &parts,
-                    most: self.most,
-                    window,
-                };
-                let (times, off) = schedule_within(work, self.graph, self.times, &clearing, limit)?;
-                clearing.off = off;
-                times
-            }
-            None => self.times.copy(work),
+        let latest = Times::of(work, &graph);
+        let mut clearing = Clearing::of(work, &graph, plan);
+        clearing.keep_late(work, &graph, &latest);
+        let limit = Limit {
+            parts: &parts,
+            lines: self.most,
+            layers: self.best.map_or(u32::MAX, |best| best.demand.layers),
+            window: choice.way.window(),
         };
-        let agenda = Agenda::of(work, self.graph, &times, clearing);
-        let demand = agenda.demand(work, self.graph, &times);
-        Some(Timetable {
-            times,
-            agenda,
-            demand,
+        let table = schedule_within(work, &graph, &latest, &clearing, limit)?;
+        Some(Found {
+            graph,
+            table,
+            clearing,
         })
     }
 }

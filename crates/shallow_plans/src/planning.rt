@@ -1,6 +1,6 @@
 // The best of the plans in layers.
 use crate::writer::{Style, Written, write};
-use layer_times::{LayerGraph, Times, Timetable, best_timetable};
+use layer_times::{Found, LayerGraph, best_timetable, straighten};
 use line_moves::Moves;
 use plan_tools::{Limits, Stop, Work};
 use std::alloc::Global;
@@ -10,10 +10,10 @@ use sum_graph::SumGraph;
 const MOST_NODES: u32 = 100_000;
 
 // The most nodes that are looked at in all plans that are tried.
-const MOST_WORK: u64 = 20_000_000;
+const MOST_WORK: u64 = 240_000_000;
 
 // The most nodes of a graph for which more ways to write a plan are tried than those on all lines.
-const FEW_NODES: u32 = 50_000;
+const FEW_NODES: usize = 50_000;
 
 /// The moves of a plan in which the Toffoli gates stand in at most twice as many layers as the
 /// graph has levels, or in more where there are too few lines for that. Each node of the graph has
@@ -33,16 +33,16 @@ pub fn plan(alloc: Global, graph: &SumGraph, limits: Limits) -> Result<Moves, St
         return Err(Stop::GaveUp);
     }
     let mut work = Work::new(alloc, MOST_WORK);
-    let graph = LayerGraph::of(&mut work, graph);
+    let mut graph = LayerGraph::of(&mut work, graph);
     let Some(most) = limits.work_lines(graph.ports()) else {
         return Err(Stop::GaveUp);
     };
     work.finish(())?;
-    let times = Times::of(&mut work, &graph);
-    let found = best_timetable(&mut work, &graph, &times, most);
+    straighten(&mut work, &mut graph);
+    let found = best_timetable(&mut work, &graph, most);
     work.finish(())?;
     match found {
-        Some(table) => best_written(alloc, &graph, &table, most),
+        Some(found) => best_written(alloc, &found, most),
         None => Err(Stop::GaveUp),
     }
 }
@@ -84,23 +84,18 @@ const WAYS: [Way; 6] = [
 ];
 
 // The least costly of the plans of a timetable, on as many lines as it needs or on more.
-fn best_written(
-    alloc: Global,
-    graph: &LayerGraph,
-    table: &Timetable,
-    most: u32,
-) -> Result<Moves, Stop> {
-    let ports = graph.ports();
-    let least = table.demand.lines;
+fn best_written(alloc: Global, found: &Found, most: u32) -> Result<Moves, Stop> {
+    let ports = found.graph.ports();
+    let least = found.table.demand.lines;
     let lines = ports.saturating_add(least);
-    let mut best = write(alloc, graph, table, lines, Style::InPlace)?;
+    let mut best = write(alloc, found, lines, Style::InPlace)?;
     for way in WAYS {
-        if graph.count() > FEW_NODES && way.sixteenths < u32::MAX {
+        if found.graph.nodes.len() > FEW_NODES && way.sixteenths < u32::MAX {
             continue;
         }
         let more = least.saturating_mul(way.sixteenths) / 16;
         let lines = ports.saturating_add(least.saturating_add(more).min(most));
-        best = better(best, write(alloc, graph, table, lines, way.style))?;
+        best = better(best, write(alloc, found, lines, way.style))?;
     }
     Ok(best.moves)
 }

@@ -1,8 +1,8 @@
 // The moves of a plan in layers.
 use layer_lines::Lines;
-use layer_times::{Agenda, Factors, Layer, LayerGraph, Node, Times, Timetable, Wants};
+use layer_times::{Clearing, Found, Layer, LayerGraph, Node, Room, Timetable};
 use line_moves::Moves;
-use plan_tools::{Stop, Work, number};
+use plan_tools::{NOWHERE, Stop, Work};
 use std::alloc::Global;
 
 /// Where a factor of several symbols stands of which one is in no other factor of its layer.
@@ -19,7 +19,8 @@ pub enum Style {
 // A Toffoli gate of a layer.
 #[derive(Clone, Copy)]
 struct Gate {
-    node: u32,
+    /// The place of its node.
+    place: u32,
     onto: u32,
     controls: [u32; 2],
     /// Whether it is undone in the reversed part.
@@ -37,8 +38,8 @@ struct Gather {
 #[derive(Drop)]
 struct Writer<'w> {
     graph: &'w LayerGraph,
-    times: &'w Times,
-    agenda: &'w Agenda,
+    table: &'w Timetable,
+    clearing: &'w Clearing,
     style: Style,
     lines: Lines,
     /// The number of the boundary, and of the layer behind it.
@@ -46,7 +47,7 @@ struct Writer<'w> {
     /// The gates of the layer.
     gates: Vec<Gate>,
     gathers: Vec<Gather>,
-    wants: Wants,
+    room: Room,
     work: Work,
 }
 
@@ -62,24 +63,25 @@ pub struct Written {
 /// # Errors
 ///
 /// The first refusal.
-pub fn write(
-    alloc: Global,
-    graph: &LayerGraph,
-    table: &Timetable,
-    limit: u32,
-    style: Style,
-) -> Result<Written, Stop> {
+pub fn write(alloc: Global, found: &Found, limit: u32, style: Style) -> Result<Written, Stop> {
     let mut work = Work::new(alloc, u64::MAX);
+    let graph = &found.graph;
     let mut writer = Writer {
         graph,
-        times: &table.times,
-        agenda: &table.agenda,
+        table: &found.table,
+        clearing: &found.clearing,
         style,
-        lines: Lines::new(alloc, graph.inputs, graph.ports(), limit, graph.symbols()),
+        lines: Lines::new(
+            alloc,
+            graph.inputs,
+            graph.ports(),
+            limit,
+            graph.symbols() as usize,
+        ),
         now: 0,
         gates: Vec::new(alloc),
         gathers: Vec::new(alloc),
-        wants: Wants::new(&mut work, graph.symbols()),
+        room: Room::new(&mut work, graph.symbols()),
         work,
     };
     writer.write_all();
@@ -88,12 +90,12 @@ pub fn write(
 
 impl Writer<'_> {
     fn write_all(&mut self) {
-        let agenda = self.agenda;
-        for (now, layer) in agenda.layers.iter().enumerate() {
+        let table = self.table;
+        for layer in &table.layers {
             if self.lines.is_stopped() {
                 return;
             }
-            self.now = number(now);
+            self.now = self.now.saturating_add(1);
             self.lines.advance(self.now);
             self.cross(layer);
             self.make_layer(layer);
@@ -102,115 +104,112 @@ impl Writer<'_> {
 
     // What is done at a boundary.
     fn cross(&mut self, layer: &Layer) {
-        for place in &layer.arrivals {
-            self.arrive(*place);
+        for symbol in &layer.arrivals {
+            self.arrive(*symbol);
         }
-        self.add_outputs(&layer.outputs);
-        self.depart(&layer.departures);
+        for symbol in &layer.departures {
+            self.depart(*symbol);
+        }
     }
 
-    // A node without a product is made; to others come the bits that were not there before.
-    fn arrive(&mut self, place: u32) {
+    // A node without a product is made, or added to the line of an output; to others come the bits
+    // that were not there before.
+    fn arrive(&mut self, symbol: u32) {
         let graph = self.graph;
-        let Some(node) = graph.node(place) else {
+        let Some(node) = graph.node(symbol) else {
             return;
         };
-        if node.is_linear() {
-            let line = self.lines.make(place, &node.bits);
-            self.lines.name(place, line);
-            return;
+        if let Some(onto) = node.onto {
+            self.lines.add_output(&node.bits, onto.output);
+        } else if node.is_linear() {
+            let number = self.number(symbol);
+            let line = self.lines.make(number, &node.bits);
+            self.name(symbol, line);
+        } else {
+            let line = self.lines.home(symbol);
+            let late = self.bits_by(node, self.table.on.get(symbol), false);
+            self.lines.add(&late, line);
         }
-        let line = self.lines.home(graph.symbol(place));
-        let late = self.bits_by(node, self.times.on.get(place), false);
-        self.lines.add(&late, line);
+    }
+
+    // The number of a node among those of the layers.
+    fn number(&self, symbol: u32) -> u32 {
+        symbol.saturating_sub(self.graph.inputs)
+    }
+
+    // Toggles a node without a product onto a line, if it is one of the graph of sums.
+    fn name(&mut self, symbol: u32, line: u32) {
+        if let Some(node) = self.graph.node(symbol)
+            && let Some(place) = node.place
+        {
+            self.lines.name(place, line);
+        }
     }
 
     // The bits of a node that are there at a boundary, or those that are not.
     fn bits_by(&mut self, node: &Node, boundary: u32, are_there: bool) -> Vec<u32> {
         let mut bits = Vec::new(self.work.alloc);
         for symbol in &node.bits {
-            if (self.times.there(self.graph, *symbol) <= boundary) == are_there {
+            if (self.table.there.get(*symbol) <= boundary) == are_there {
                 self.work.push(&mut bits, *symbol);
             }
         }
         bits
     }
 
-    fn add_outputs(&mut self, outputs: &[u32]) {
-        let times = self.times;
-        for output in outputs {
-            if let Some(end) = times.ends.get(*output as usize) {
-                self.lines.add_output(&end.bits, *output);
+    // Clears a node without a product: its line holds other symbols in its place.
+    fn depart(&mut self, symbol: u32) {
+        let (graph, clearing) = (self.graph, self.clearing);
+        let number = self.number(symbol);
+        self.lines.release(number);
+        let line = self.lines.home(symbol);
+        match clearing.left(symbol) {
+            Some(left) => {
+                for name in &left.names {
+                    self.name(*name, line);
+                }
             }
+            None => self.name(symbol, line),
         }
-    }
-
-    // Clears nodes without products.
-    fn depart(&mut self, places: &[u32]) {
-        let (graph, agenda) = (self.graph, self.agenda);
-        for place in places {
-            self.lines.release(*place);
-            if let Some(left) = agenda.left(*place) {
-                self.write_out(*place, &left.names, &left.bits);
-            } else if let Some(node) = graph.node(*place) {
-                self.write_out(*place, &[*place], &node.bits);
-            }
-        }
-    }
-
-    // The line of a node holds other symbols in its place, by these nodes.
-    fn write_out(&mut self, place: u32, names: &[u32], bits: &[u32]) {
-        let line = self.lines.home(self.graph.symbol(place));
-        for name in names {
-            self.lines.name(*name, line);
-        }
-        self.lines.leave(place, bits);
+        let [left, _, _] = clearing.operands(graph, symbol);
+        self.lines.leave(number, left);
     }
 
     // The gates of a layer, behind what they want on their lines.
     fn make_layer(&mut self, layer: &Layer) {
-        for place in &layer.cleared {
-            self.lines.release(*place);
+        for symbol in &layer.cleared {
+            let number = self.number(*symbol);
+            self.lines.release(number);
         }
-        self.wants.advance();
-        self.ask_all(&layer.cleared);
-        self.ask_all(&layer.made);
+        self.room.advance();
+        self.room.ask_all(self.graph, &layer.cleared);
+        self.room.ask_all(self.graph, &layer.made);
         self.choose_all(&layer.cleared);
         self.choose_all(&layer.made);
         self.write_gates();
         self.leave_all(&layer.cleared);
     }
 
-    fn ask_all(&mut self, places: &[u32]) {
-        for place in places {
-            if let Some(factors) = self.graph.factors(*place) {
-                self.wants.add(factors);
-            }
-        }
-    }
-
-    fn choose_all(&mut self, places: &[u32]) {
+    fn choose_all(&mut self, symbols: &[u32]) {
         let graph = self.graph;
-        for place in places {
-            if let Some(node) = graph.node(*place)
-                && let Some(factors) = &node.factors
-            {
-                self.choose(*place, node, factors);
+        for symbol in symbols {
+            if let Some(node) = graph.node(*symbol) {
+                self.choose(*symbol, node);
             }
         }
     }
 
     // Chooses the lines of a node's gate.
-    fn choose(&mut self, place: u32, node: &Node, factors: &Factors) {
-        let first = self.control(&factors.first);
-        let second = self.control(&factors.second);
-        let onto = self.target(place, node);
+    fn choose(&mut self, symbol: u32, node: &Node) {
+        let [first, second] = self.graph.factors(symbol);
+        let controls = [self.control(first), self.control(second)];
+        let onto = self.target(symbol, node);
         self.lines.note_use(onto);
         let gate = Gate {
-            node: place,
+            place: node.place.unwrap_or(NOWHERE),
             onto,
-            controls: [first, second],
-            is_undone: !self.times.is_straight(place),
+            controls,
+            is_undone: node.onto.is_none(),
         };
         self.work.push(&mut self.gates, gate);
     }
@@ -241,7 +240,7 @@ impl Writer<'_> {
         let mut least = u32::MAX;
         for symbol in factor {
             let line = self.lines.home(*symbol);
-            if factor.len() > 1 && self.wants.is_own(*symbol) && self.lines.load(line) < least {
+            if factor.len() > 1 && self.room.is_own(*symbol) && self.lines.load(line) < least {
                 best = Some(line);
                 least = self.lines.load(line);
             }
@@ -261,22 +260,23 @@ impl Writer<'_> {
 
     // The line of a node, or that of the output onto which it goes; where it is made, it takes one,
     // with the bits that are there.
-    fn target(&mut self, place: u32, node: &Node) -> u32 {
-        if let Some(output) = self.times.straight.get(place) {
-            return self.graph.inputs.saturating_add(output);
+    fn target(&mut self, symbol: u32, node: &Node) -> u32 {
+        if let Some(onto) = node.onto {
+            return self.graph.inputs.saturating_add(onto.output);
         }
-        if self.times.on.get(place) < self.now {
-            return self.lines.home(self.graph.symbol(place));
+        if self.table.on.get(symbol) < self.now {
+            return self.lines.home(symbol);
         }
         let early = self.bits_by(node, self.now, true);
-        self.lines.make(place, &early)
+        let number = self.number(symbol);
+        self.lines.make(number, &early)
     }
 
     fn write_gates(&mut self) {
         self.write_gathers();
         for gate in &self.gates {
             self.lines
-                .toggle(gate.node, gate.onto, gate.controls, gate.is_undone);
+                .toggle(gate.place, gate.onto, gate.controls, gate.is_undone);
         }
         self.gates.clear();
         self.lines.advance(self.now.saturating_add(1));
@@ -291,22 +291,21 @@ impl Writer<'_> {
     }
 
     // The lines of nodes that were cleared hold their bits.
-    fn leave_all(&mut self, places: &[u32]) {
+    fn leave_all(&mut self, symbols: &[u32]) {
         let graph = self.graph;
-        for place in places {
-            if let Some(node) = graph.node(*place) {
-                self.lines.leave(*place, &node.bits);
-            }
+        for symbol in symbols {
+            let [bits, _, _] = graph.operands(*symbol);
+            let number = self.number(*symbol);
+            self.lines.leave(number, bits);
         }
     }
 
     fn finish(mut self) -> Result<Written, Stop> {
         self.work.finish(())?;
         let graph = self.graph;
-        let (nodes, ports) = (graph.count(), graph.ports());
-        self.lines.reverse(nodes, number(graph.outputs.len()));
+        self.lines.reverse(graph.places, graph.outputs);
         let cost = self.lines.cost();
-        let moves = self.lines.finish(ports)?;
+        let moves = self.lines.finish(graph.ports())?;
         Ok(Written { moves, cost })
     }
 }
