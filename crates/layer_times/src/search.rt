@@ -56,6 +56,15 @@ impl Way {
         }
     }
 
+    // Whether what could be cleared at the end alone is kept: not where few parts are made at a
+    // time, and layers come late.
+    fn keeps_late(self) -> bool {
+        match self {
+            Way::Apart | Way::Grouped => true,
+            Way::Within(window) => window > 2,
+        }
+    }
+
     // How many of so many parts are not cleaned.
     fn kept(self, count: u32) -> [u32; 3] {
         match self {
@@ -213,7 +222,9 @@ impl Search<'_> {
         };
         let latest = Times::of(work, &graph);
         let mut clearing = Clearing::of(work, &graph, plan);
-        clearing.keep_late(work, &graph, &latest);
+        if choice.way.keeps_late() {
+            clearing.keep_late(work, &graph, &latest);
+        }
         let limit = Limit {
             parts: &parts,
             lines: self.most,
