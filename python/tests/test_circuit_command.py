@@ -108,7 +108,7 @@ class Commands(unittest.TestCase):
             self.assertEqual(row["lines"], row["inputs"] + row["outputs"] + row["work"] + row["borrowed"])
         shown = self.gives([*words, "-o", "costs.json"])
         self.assertEqual(json.loads(Path("costs.json").read_text()), rows)
-        self.assertEqual(len(shown.splitlines()), len(rows) + 1)
+        self.assertEqual(len(shown.splitlines()), len(rows) + 2)  # the heads above, the ANDs below
 
 
 if __name__ == "__main__":
