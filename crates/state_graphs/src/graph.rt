@@ -1,7 +1,8 @@
 // The graph that is swept.
 use plan_tools::Table;
 
-/// A node with a product. Vectors are falling lists of symbols.
+/// A node with a product, or a sum with a symbol of its own, which has empty factors. Vectors are
+/// falling lists of symbols.
 #[derive(Drop)]
 pub struct StateNode {
     /// Its place among the nodes of the graph of sums.
@@ -47,6 +48,13 @@ pub struct StateGraph {
     pub starts: Vec<u32>,
 }
 
+impl StateNode {
+    /// Whether it has no product.
+    pub fn is_sum(&self) -> bool {
+        self.first.is_empty()
+    }
+}
+
 impl StateGraph {
     /// The node at a place of the order.
     pub fn node(&self, place: u32) -> Option<&StateNode> {
@@ -63,12 +71,9 @@ impl StateGraph {
         symbol.checked_sub(self.inputs)
     }
 
-    /// Whether a vector has a symbol that is no input.
+    /// Whether nodes are wanted for a vector.
     pub fn has_node(&self, vector: &[u32]) -> bool {
-        match vector.first() {
-            Some(symbol) => *symbol >= self.inputs,
-            None => false,
-        }
+        vector.iter().any(|symbol| self.weights.get(*symbol) > 0)
     }
 
     /// How many symbols there are.

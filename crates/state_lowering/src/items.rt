@@ -14,6 +14,8 @@ pub struct Item {
     /// The factors of its product; both are empty where it has none.
     pub first: Vec<u32>,
     pub second: Vec<u32>,
+    /// Whether it is to have a symbol though it has no product.
+    pub is_long: bool,
 }
 
 impl Item {
@@ -61,6 +63,7 @@ impl Items {
             bits: marks.list(work, sum.bits()),
             first: Vec::new(work.alloc),
             second: Vec::new(work.alloc),
+            is_long: false,
         };
         if let Some(product) = sum.products().first() {
             item.first = marks.list(work, product.first());
@@ -104,6 +107,23 @@ impl Items {
     /// The item at a place.
     pub fn item(&self, place: u32) -> Option<&Item> {
         self.list.get(place as usize)
+    }
+
+    /// Whether the item at a place has no symbol.
+    pub fn is_sum(&self, place: u32) -> bool {
+        match self.item(place) {
+            Some(item) => item.is_linear() && !item.is_long,
+            None => false,
+        }
+    }
+
+    /// Items are to have symbols though they have no products.
+    pub fn mark_long(&mut self, places: &[u32]) {
+        for place in places {
+            if let Some(item) = self.list.get_mut(*place as usize) {
+                item.is_long = true;
+            }
+        }
     }
 
     /// Whether the item at a place has no product.

@@ -13,7 +13,7 @@ const MOST_WORK: u64 = 40_000_000;
 
 /// The graph that is swept for these sums, each of whose nodes has at most one product, and whose
 /// outputs have none. Its nodes stand as there, or, where they are `late`, each segment right
-/// before its first reader.
+/// before its first reader, and long sums have symbols too.
 ///
 /// # Errors
 ///
@@ -21,10 +21,13 @@ const MOST_WORK: u64 = 40_000_000;
 /// where memory is refused. No clause says so.
 pub fn lower(alloc: Global, graph: &SumGraph, late: bool) -> Result<StateGraph, Stop> {
     let mut work = Work::new(alloc, MOST_WORK);
-    let items = Items::of(&mut work, graph);
+    let mut items = Items::of(&mut work, graph);
     let mut order = Order::of(&mut work, &items);
     if late {
         order = order.late(&mut work, &items);
+        let long = Values::long(&mut work, &items, &order);
+        items.mark_long(&long);
+        order = order.with_long(&mut work, &items);
     }
     let mut lowered = StateGraph {
         inputs: graph.inputs(),
@@ -68,7 +71,11 @@ fn node_of(
     item: &Item,
     parts: Parts,
 ) -> StateNode {
-    let event = values.event(work, place);
+    let event = if item.is_linear() {
+        Vec::new(work.alloc)
+    } else {
+        values.event(work, place)
+    };
     StateNode {
         name: item.name,
         written: values.written(work, &event, &parts.event),

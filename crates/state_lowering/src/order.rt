@@ -15,6 +15,15 @@ pub struct Order {
     pub starts: Vec<u32>,
 }
 
+// Where an item comes: at a spot, which is a place of the order without long sums; these come first
+// there.
+#[derive(Clone, Copy, PartialEq, Eq, PartialOrd, Ord)]
+struct Key {
+    spot: u32,
+    has_product: bool,
+    place: u32,
+}
+
 impl Order {
     /// The order in which they stand.
     pub fn of(work: &mut Work, items: &Items) -> Order {
@@ -58,6 +67,88 @@ impl Order {
         Order::cut(work, items, places)
     }
 
+    /// The same with the long sums. Each stands right before the next item with a product, but
+    /// behind all that it is made of, and before all that read it.
+    pub fn with_long(&self, work: &mut Work, items: &Items) -> Order {
+        let mut keys = self.keys(work, items);
+        keys.sort_unstable();
+        let mut order = Order {
+            places: Vec::new(work.alloc),
+            starts: Vec::new(work.alloc),
+        };
+        let mut last = UNPLACED;
+        for Key { spot, place, .. } in &keys {
+            if *spot != last && self.starts.binary_search(spot).is_ok() {
+                work.push(&mut order.starts, number(order.places.len()));
+            }
+            last = *spot;
+            work.push(&mut order.places, *place);
+        }
+        order
+    }
+
+    // The keys of the items with symbols.
+    fn keys(&self, work: &mut Work, items: &Items) -> Vec<Key> {
+        let tops = self.tops(work, items);
+        let firsts = self.firsts(work, items);
+        let mut keys = Vec::new(work.alloc);
+        let mut next = UNPLACED;
+        for place in (0..number(items.list.len())).rev() {
+            let has_product = !items.is_linear(place);
+            let mut spot = firsts.get(place);
+            if has_product {
+                next = spot;
+            } else {
+                spot = spot.min(next).max(tops.get(place));
+            }
+            if !items.is_sum(place) {
+                work.push(
+                    &mut keys,
+                    Key {
+                        spot,
+                        has_product,
+                        place,
+                    },
+                );
+            }
+        }
+        keys
+    }
+
+    // Of each item with a product where it stands, of a sum where the first one stands that reads
+    // it, also through other sums.
+    fn firsts(&self, work: &mut Work, items: &Items) -> Table<u32> {
+        let mut firsts = self.standing(work, items);
+        for place in (0..number(items.list.len())).rev() {
+            let first = firsts.get(place);
+            items.put_before(list_at(&items.reads, place), first, &mut firsts);
+        }
+        firsts
+    }
+
+    // Of each item of the order where it stands.
+    fn standing(&self, work: &mut Work, items: &Items) -> Table<u32> {
+        let mut places = Table::new(work, items.list.len(), UNPLACED);
+        for (at, place) in self.places.iter().enumerate() {
+            places.set(*place, number(at));
+        }
+        places
+    }
+
+    /// Of each item the place behind all items of the order that it is made of, itself among them.
+    pub fn tops(&self, work: &mut Work, items: &Items) -> Table<u32> {
+        let standing = self.standing(work, items);
+        let mut tops = Table::new(work, items.list.len(), 0);
+        for place in 0..number(items.list.len()) {
+            let top = match standing.get(place) {
+                UNPLACED => last_top(list_at(&items.reads, place), &tops),
+                at => at.saturating_add(1),
+            };
+            tops.set(place, top);
+        }
+        tops
+    }
+
     // The items of segments, one behind the other.
     fn joined(&self, work: &mut Work, segments: &[u32]) -> Vec<u32> {
         let mut places = Vec::new(work.alloc);
@@ -87,6 +178,15 @@ impl Order {
 }
 
 impl Items {
+    // Of some items the sums are to stand before a spot.
+    fn put_before(&self, places: &[u32], spot: u32, spots: &mut Table<u32>) {
+        for place in places {
+            if self.is_linear(*place) {
+                spots.set(*place, spots.get(*place).min(spot));
+            }
+        }
+    }
+
     // Whether an item reads another one, or a sum that does.
     fn links(&self, from: Option<u32>, to: u32) -> bool {
         let Some(from) = from else {
@@ -201,6 +301,14 @@ impl<'o> Lateness<'o> {
             place = place.saturating_add(1);
         }
     }
+}
+
+fn last_top(reads: &[u32], tops: &Table<u32>) -> u32 {
+    let mut last = 0;
+    for read in reads {
+        last = tops.get(*read).max(last);
+    }
+    last
 }
 
 fn readers_of(work: &mut Work, items: &Items) -> Vec<Vec<u32>> {

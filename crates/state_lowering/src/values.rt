@@ -3,10 +3,18 @@ use crate::items::Items;
 use crate::order::{Order, push_at};
 use plan_tools::{Table, Work, list_at, number};
 
+/// How many symbols the vector of a sum without one of its own has at most.
+const MOST_SYMBOLS: usize = 44;
+
 /// The values of items as vectors, with what the nodes with products were made of.
 #[derive(Drop)]
 pub struct Values<'i> {
     items: &'i Items,
+    /// The symbol of the first node.
+    first: u32,
+    /// Whether sums with long vectors get symbols, which are less than those of nodes.
+    finds_long: bool,
+    long: Vec<u32>,
     /// Of each item its vector.
     vectors: Vec<Vec<u32>>,
     /// Of each place of the order the item whose value is its symbol alone.
@@ -27,18 +35,51 @@ pub struct Parts {
     pub second: Vec<u32>,
 }
 
+impl Parts {
+    // Whether the factors are different, and none is empty.
+    fn is_product(&self) -> bool {
+        self.first != self.second && !self.first.is_empty() && !self.second.is_empty()
+    }
+}
+
 impl<'i> Values<'i> {
     /// The values of the items without products that are sums of inputs.
     pub fn of(work: &mut Work, items: &'i Items, order: &Order) -> Values<'i> {
+        Values::new(work, items, order, items.inputs, false)
+    }
+
+    fn new(
+        work: &mut Work,
+        items: &'i Items,
+        order: &Order,
+        first: u32,
+        finds_long: bool,
+    ) -> Values<'i> {
         let mut values = Values {
             items,
+            first,
+            finds_long,
+            long: Vec::new(work.alloc),
             vectors: work.lists(items.list.len()),
             holders: Vec::new(work.alloc),
             uses: uses_of(work, items),
             behind: behind_of(work, items, order),
         };
-        values.put_sums(work, 0);
+        values.put_sums(work, 0, finds_long);
         values
+    }
+
+    /// The sums that have long vectors where they have no symbols of their own, though others do.
+    pub fn long(work: &mut Work, items: &'i Items, order: &Order) -> Vec<u32> {
+        let first = items.inputs.saturating_add(number(items.list.len()));
+        let mut values = Values::new(work, items, order, first, true);
+        for place in &order.places {
+            let _ = values.push(work, *place);
+            if work.is_stopped() {
+                break;
+            }
+        }
+        work.take(&mut values.long)
     }
 
     /// The vector of a list of marks.
@@ -66,19 +107,18 @@ impl<'i> Values<'i> {
     /// symbols whose last node it is makes all of these the shortest, that one has it alone. The
     /// work gives up where the product is none, as of equal factors.
     pub fn push(&mut self, work: &mut Work, place: u32) -> Parts {
-        let symbol = self.items.inputs.saturating_add(number(self.holders.len()));
-        let mut parts = self.parts(work, place);
-        if parts.first == parts.second || parts.first.is_empty() || parts.second.is_empty() {
-            work.give_up();
-        }
-        self.set(place, work.copy(&[symbol]));
+        let symbol = self.first.saturating_add(number(self.holders.len()));
         let at = number(self.holders.len()).saturating_add(1);
-        self.put_sums(work, at);
-        let holder = self.best_holder(work, at, symbol);
+        let mut parts = self.parts(work, place);
+        self.set(place, work.copy(&[symbol]));
+        self.put_sums(work, at, false);
+        let holder = self.best_holder(work, at, place);
         if let Some(item) = holder {
             let vector = work.copy(list_at(&self.vectors, item));
             self.set(place, vector);
-            self.put_sums(work, at);
+        }
+        if holder.is_some() || self.finds_long {
+            self.put_sums(work, at, self.finds_long);
         }
         work.push(&mut self.holders, holder.unwrap_or(place));
         parts.event = self.plus(work, list_at(&self.vectors, place), &parts.bits);
@@ -97,6 +137,9 @@ impl<'i> Values<'i> {
             parts.bits = self.sum(work, &item.bits);
             parts.first = self.sum(work, &item.first);
             parts.second = self.sum(work, &item.second);
+            if !item.is_linear() && !parts.is_product() {
+                work.give_up();
+            }
         }
         parts
     }
@@ -109,7 +152,7 @@ impl<'i> Values<'i> {
     }
 
     // The values of the items without products behind a node.
-    fn put_sums(&mut self, work: &mut Work, at: u32) {
+    fn put_sums(&mut self, work: &mut Work, at: u32, finds_long: bool) {
         let items = self.items;
         for k in 0..list_at(&self.behind, at).len() {
             let Some(place) = list_at(&self.behind, at).get(k).copied() else {
@@ -117,17 +160,27 @@ impl<'i> Values<'i> {
             };
             if let Some(item) = items.item(place) {
                 let vector = self.sum(work, &item.bits);
-                self.set(place, vector);
+                if finds_long && vector.len() > MOST_SYMBOLS {
+                    work.push(&mut self.long, place);
+                    let symbol = items.inputs.saturating_add(place);
+                    self.set(place, work.copy(&[symbol]));
+                } else {
+                    self.set(place, vector);
+                }
             }
         }
     }
 
-    // The item that is to have a symbol alone, if not the node itself.
-    fn best_holder(&self, work: &mut Work, at: u32, symbol: u32) -> Option<u32> {
+    // The sum that is to have the symbol of an item with a product alone, if not the item itself.
+    fn best_holder(&self, work: &mut Work, at: u32, place: u32) -> Option<u32> {
+        let symbol = self.head(place)?;
+        if self.items.is_linear(place) {
+            return None;
+        }
         let mut best: Option<(usize, u32)> = None;
         for item in list_at(&self.behind, at) {
             let vector = list_at(&self.vectors, *item);
-            if vector.len() > 1 && vector.first() == Some(&symbol) {
+            if vector.len() > 1 && self.head(*item) == Some(symbol) {
                 let cost = self.cost(work, at, vector);
                 best = match best {
                     Some((least, held)) if least <= cost => Some((least, held)),
@@ -137,6 +190,11 @@ impl<'i> Values<'i> {
         }
         let (_, item) = best?;
         Some(item)
+    }
+
+    // The greatest symbol of an item's vector.
+    fn head(&self, item: u32) -> Option<u32> {
+        list_at(&self.vectors, item).first().copied()
     }
 
     // How long the vectors behind a node are, by their uses, where this one is a symbol alone.
@@ -181,7 +239,7 @@ impl<'i> Values<'i> {
     fn form(&self, work: &mut Work, vector: &[u32]) -> Vec<u32> {
         let mut marks = Vec::new(work.alloc);
         for symbol in vector {
-            let mark = match symbol.checked_sub(self.items.inputs) {
+            let mark = match symbol.checked_sub(self.first) {
                 Some(place) => self.holder_mark(place),
                 None => *symbol,
             };
@@ -243,35 +301,14 @@ fn count(marks: &[u32], inputs: u32, uses: &mut Table<u32>) {
     }
 }
 
-// The items without products by the last nodes with products that they are made of.
+// The sums by the last items of the order that they are made of.
 fn behind_of(work: &mut Work, items: &Items, order: &Order) -> Vec<Vec<u32>> {
-    let mut tops = tops_of(work, items, order);
+    let tops = order.tops(work, items);
     let mut behind = work.lists(order.places.len().saturating_add(1));
     for place in 0..number(items.list.len()) {
-        if items.is_linear(place) {
-            let top = last_top(list_at(&items.reads, place), &tops);
-            tops.set(place, top);
-            push_at(work, &mut behind, top, place);
+        if items.is_sum(place) {
+            push_at(work, &mut behind, tops.get(place), place);
         }
     }
     behind
-}
-
-// Of each item with a product its place in the order, counted from 1.
-fn tops_of(work: &mut Work, items: &Items, order: &Order) -> Table<u32> {
-    let mut tops = Table::new(work, items.list.len(), 0);
-    let mut top: u32 = 1;
-    for place in &order.places {
-        tops.set(*place, top);
-        top = top.saturating_add(1);
-    }
-    tops
-}
-
-fn last_top(reads: &[u32], tops: &Table<u32>) -> u32 {
-    let mut last = 0;
-    for read in reads {
-        last = tops.get(*read).max(last);
-    }
-    last
 }

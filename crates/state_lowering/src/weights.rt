@@ -15,7 +15,7 @@ pub fn weights_of(work: &mut Work, graph: &StateGraph) -> Table<u32> {
     let mut weights = Table::new(work, graph.symbols(), 0);
     let below = Below::of(work, graph);
     for first in (0..graph.nodes.len()).step_by(AT_ONCE) {
-        let masks = masks_from(work, &below, first);
+        let masks = masks_from(work, graph, &below, first);
         let from = inputs.saturating_add(first);
         add_counts(&masks, number(from), &mut weights);
         work.spend((masks.len() / PER_UNIT) as u64);
@@ -27,10 +27,10 @@ pub fn weights_of(work: &mut Work, graph: &StateGraph) -> Table<u32> {
 }
 
 // Of each node from the first of these on a mask of those of them that are wanted for it.
-fn masks_from(work: &mut Work, below: &Below, first: usize) -> Vec<u64> {
+fn masks_from(work: &mut Work, graph: &StateGraph, below: &Below, first: usize) -> Vec<u64> {
     let mut masks: Vec<u64> = Vec::new(work.alloc);
     for place in first..below.nodes() {
-        let mask = own_mask(place, first) | mask_below(below.list(place), &masks, first);
+        let mask = own_mask(graph, place, first) | mask_below(below.list(place), &masks, first);
         work.push(&mut masks, mask);
     }
     masks
@@ -44,9 +44,12 @@ fn mask_below(below: &[u32], masks: &[u64], first: usize) -> u64 {
     mask
 }
 
-fn own_mask(place: usize, first: usize) -> u64 {
+fn own_mask(graph: &StateGraph, place: usize, first: usize) -> u64 {
     let bit = place.saturating_sub(first);
-    if bit < AT_ONCE { 1 << bit } else { 0 }
+    match graph.nodes.get(place) {
+        Some(node) if bit < AT_ONCE && !node.is_sum() => 1 << bit,
+        _ => 0,
+    }
 }
 
 fn mask_at(masks: &[u64], place: usize, first: usize) -> u64 {

@@ -147,7 +147,7 @@ impl Lines {
                 let life = self.rows.get(*row);
                 self.rows.set(*row, Life { to: moment, ..life });
             }
-            Step::Add { .. } | Step::Toggle { .. } => {}
+            Step::Add { .. } | Step::Toggle { .. } | Step::Define { .. } => {}
         }
     }
 }

@@ -1,7 +1,7 @@
 // The moves of what a sweep found: forward, and what is beneath the state back.
 use crate::lives::Lines;
-use line_moves::{Moves, Writing};
-use plan_tools::{Row, Stop, Work, number};
+use line_moves::{Factor, Moves, Writing};
+use plan_tools::{NOWHERE, Row, Stop, Table, Work, number};
 use state_graphs::{StateGraph, StateNode};
 use state_rows::Step;
 use state_sweeps::Sweep;
@@ -14,6 +14,8 @@ struct Replay<'g> {
     graph: &'g StateGraph,
     lines: &'g Lines,
     writing: Writing,
+    /// Of each row that is a definition the place of its node.
+    defined: Table<u32>,
     /// The ranges of moves that change lines of rows beneath.
     beneath: Vec<(usize, usize)>,
 }
@@ -26,8 +28,10 @@ pub fn moves_of(
     lines: &Lines,
 ) -> Result<Moves, Stop> {
     let ports = graph.inputs.saturating_add(number(graph.outputs.len()));
+    let mut work = Work::new(alloc, u64::MAX);
     let mut replay = Replay {
-        work: Work::new(alloc, u64::MAX),
+        defined: defined_by(&mut work, sweep),
+        work,
         graph,
         lines,
         writing: Writing::new(alloc, ports.saturating_add(lines.work)),
@@ -47,7 +51,7 @@ pub fn moves_of(
     writing.moves.finish(ports, lines.work)
 }
 
-impl Replay<'_> {
+impl<'g> Replay<'g> {
     // The rows of the beginning on the lines of inputs. Their heads fall, so each adds inputs that
     // are still alone.
     fn begin(&mut self, sweep: &Sweep) {
@@ -70,8 +74,7 @@ impl Replay<'_> {
         let from = self.writing.moves.len();
         match step {
             Step::Add { from: row, to } => {
-                let (line, onto) = (self.lines.line(*row), self.lines.line(*to));
-                self.writing.moves.copy(line, onto);
+                self.add(*row, self.lines.line(*to));
                 self.end(*to, from);
             }
             Step::Toggle {
@@ -85,7 +88,7 @@ impl Replay<'_> {
                 }
                 self.end(*onto, from);
             }
-            Step::Begin(_) | Step::End { .. } | Step::Last(_) => {}
+            _ => {}
         }
     }
 
@@ -99,24 +102,44 @@ impl Replay<'_> {
     // Toggles a node onto a line, and with it those without products that bring the line back to
     // the form in which it holds vectors.
     fn toggle(&mut self, node: &StateNode, onto: u32, first: &[Row], second: &[Row]) {
-        let (first, second) = (self.lines_of(first), self.lines_of(second));
-        let first = self.writing.factor(&first, &node.first_written);
-        let second = self.writing.factor(&second, &node.second_written);
-        self.writing.product(first, second);
-        self.writing.toggle(node.name, onto, &[]);
+        if !node.is_sum() {
+            let first = self.factor(first, &node.first_written);
+            let second = self.factor(second, &node.second_written);
+            self.writing.product(first, second);
+            self.writing.toggle(node.name, onto, &[]);
+        }
         for name in &node.written {
             self.writing.moves.name(*name, onto);
         }
     }
 
-    // The lines of rows, rising.
-    fn lines_of(&mut self, rows: &[Row]) -> Vec<u32> {
+    // A factor, the sum of rows.
+    fn factor(&mut self, rows: &[Row], written: &[u32]) -> Factor {
         let mut lines = Vec::new(self.work.alloc);
+        let mut names = self.work.copy(written);
         for row in rows {
-            self.work.push(&mut lines, self.lines.line(*row));
+            match self.definition(*row) {
+                Some(node) => self.work.append(&mut names, &node.written),
+                None => self.work.push(&mut lines, self.lines.line(*row)),
+            }
         }
         lines.sort_unstable();
-        lines
+        self.writing.factor(&lines, &names)
+    }
+
+    // The node of which a row is the definition.
+    fn definition(&self, row: Row) -> Option<&'g StateNode> {
+        self.graph.node(self.defined.get(row))
+    }
+
+    // Adds a row to a line.
+    fn add(&mut self, row: Row, onto: u32) {
+        let Some(node) = self.definition(row) else {
+            return self.writing.moves.copy(self.lines.line(row), onto);
+        };
+        for name in &node.written {
+            self.writing.moves.name(*name, onto);
+        }
     }
 
     // What changed lines of rows beneath once more, from the last to the first.
@@ -150,4 +173,15 @@ impl Replay<'_> {
             self.writing.moves.name(*name, line);
         }
     }
+}
+
+// Of each row that is a definition the place of its node.
+fn defined_by(work: &mut Work, sweep: &Sweep) -> Table<u32> {
+    let mut defined = Table::new(work, sweep.rows as usize, NOWHERE);
+    for step in &sweep.steps {
+        if let Step::Define { row, node } = step {
+            defined.set(*row, *node);
+        }
+    }
+    defined
 }

@@ -34,7 +34,7 @@ impl Placing {
 impl StateRows {
     /// Places a vector as a row. Where a row has its head, one beneath has it before one of the
     /// state; of two in one layer the new one takes it where it is `First`, or shorter by more than
-    /// the margin. A row of the state that is left with nothing begins there.
+    /// the margin. A row that is left with nothing begins there.
     pub fn place(&mut self, work: &mut Work, row: Row, vector: Vec<u32>, how: Place) {
         let mut placing = Placing {
             vector,
@@ -68,6 +68,9 @@ impl StateRows {
 
     // Whether the vector takes the head of a row.
     fn takes(&self, placing: &Placing, rival: Row) -> bool {
+        if self.is_definition(rival) {
+            return false;
+        }
         if self.layer(placing.to) != self.layer(rival) {
             return self.layer(placing.to) == Layer::Beneath;
         }
@@ -85,9 +88,6 @@ impl StateRows {
     // Puts the vector where it came to.
     fn settle(&mut self, work: &mut Work, mut placing: Placing) {
         if placing.vector.is_empty() {
-            if self.layer(placing.to) == Layer::Beneath {
-                work.give_up();
-            }
             return self.push(work, Step::Begin(placing.to));
         }
         if !placing.is(placing.to, Place::First) {
@@ -147,7 +147,8 @@ impl StateRows {
         let Some((first, others)) = rows.split_first() else {
             return;
         };
-        if others.is_empty() || vector.len() >= self.vector(*first).len() {
+        let is_kept = self.is_definition(*first) || others.is_empty();
+        if is_kept || vector.len() >= self.vector(*first).len() {
             return;
         }
         self.add_all(work, others, *first);

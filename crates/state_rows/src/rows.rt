@@ -1,4 +1,5 @@
 // Rows in two layers, with what changed them.
+use crate::placing::Place;
 use plan_tools::{Echelon, Reduced, Row, Table, Work};
 
 /// Where a row belongs. Rows of the state begin as zeros and end as outputs; those beneath are
@@ -33,6 +34,11 @@ pub enum Step {
     },
     /// A row beneath is wanted no more behind that, but keeps its line.
     Last(Row),
+    /// A row is the definition of a node without a product, and has no line.
+    Define {
+        row: Row,
+        node: u32,
+    },
 }
 
 // What a row held before it changed; nothing where it was out.
@@ -55,6 +61,8 @@ pub struct StateRows {
     pub(crate) echelon: Echelon,
     /// Of each row its layer.
     layers: Table<Layer>,
+    /// Of each row whether it is a definition: a sum that is 0, so it takes no line.
+    is_definition: Table<bool>,
     /// By more than how many symbols a vector is to be shorter than the row with its head to take
     /// that head.
     pub(crate) margin: usize,
@@ -79,6 +87,7 @@ impl StateRows {
             margin,
             echelon: Echelon::new(work, symbols),
             layers: Table::of(Vec::new(work.alloc), Layer::State),
+            is_definition: Table::of(Vec::new(work.alloc), false),
             next: 0,
             changes: None,
             moments: Table::of(Vec::new(work.alloc), 0),
@@ -117,6 +126,11 @@ impl StateRows {
     /// The layer of a row.
     pub fn layer(&self, row: Row) -> Layer {
         self.layers.get(row)
+    }
+
+    /// Whether a row is a definition. It keeps its vector and its head.
+    pub fn is_definition(&self, row: Row) -> bool {
+        self.is_definition.get(row)
     }
 
     /// The row of a layer whose head is this symbol, if there is one.
@@ -196,12 +210,22 @@ impl StateRows {
         if row as usize >= self.echelon.made() {
             let _ = self.echelon.fresh(work);
             self.layers.push(work, layer);
+            self.is_definition.push(work, false);
             self.moments.push(work, 0);
             self.is_changed.push(work, false);
         }
         self.layers.set(row, layer);
+        self.is_definition.set(row, false);
         self.next = row.saturating_add(1);
         row
+    }
+
+    /// Makes a sum that is 0 a row: the definition of a node.
+    pub fn define(&mut self, work: &mut Work, node: u32, vector: Vec<u32>) {
+        let row = self.fresh(work, Layer::Beneath);
+        self.is_definition.set(row, true);
+        self.push(work, Step::Define { row, node });
+        self.place(work, row, vector, Place::First);
     }
 
     /// Takes a row out, and gives its vector.

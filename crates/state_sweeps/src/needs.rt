@@ -84,7 +84,9 @@ impl Sweeper<'_> {
 
     fn reach_rows(&self, range: Range, layer: Layer, needed: &mut Needed) {
         for place in range.from..range.to {
-            if let Some(row) = self.rows.in_layer(self.graph.symbol(place), layer) {
+            if let Some(row) = self.rows.in_layer(self.graph.symbol(place), layer)
+                && !self.rows.is_definition(row)
+            {
                 needed.reach(self.rows.vector(row), false);
             }
         }
@@ -117,11 +119,20 @@ impl Sweeper<'_> {
             if wanted.get(place) {
                 mark(self.below.list(place as usize), &mut wanted);
                 let is_pivot = self.by_weight.is_pivot(&self.pivots, symbol);
-                score.nodes = score.nodes.saturating_add(1);
-                score.pivots = score.pivots.saturating_add(u32::from(is_pivot));
+                if self.has_product(place) {
+                    score.nodes = score.nodes.saturating_add(1);
+                    score.pivots = score.pivots.saturating_add(u32::from(is_pivot));
+                }
             }
         }
         score
+    }
+
+    fn has_product(&self, place: u32) -> bool {
+        match self.graph.node(place) {
+            Some(node) => !node.is_sum(),
+            None => false,
+        }
     }
 
     // Notes the nodes of the row beneath that has this head, which all come before it.

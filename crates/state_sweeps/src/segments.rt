@@ -11,6 +11,7 @@ impl Sweeper<'_> {
     /// where it is given up, since too much was asked for.
     pub fn back_over(&mut self, range: Range, is_clean: bool) -> bool {
         self.requests.clear();
+        self.define_sums(range);
         let turns = range.to.saturating_sub(range.from).saturating_mul(2);
         for _ in 0..turns.saturating_add(1) {
             let rest = self.close(range, is_clean);
@@ -24,6 +25,19 @@ impl Sweeper<'_> {
         }
         self.work.give_up();
         false
+    }
+
+    // Sums with symbols of their own are defined.
+    fn define_sums(&mut self, range: Range) {
+        let graph = self.graph;
+        for place in range.from..range.to {
+            if let Some(node) = graph.node(place)
+                && node.is_sum()
+            {
+                let event = self.work.copy(&node.event);
+                self.rows.define(&mut self.work, place, event);
+            }
+        }
     }
 
     // The inner nodes of both layers go off, rising, in turns; those of the state that do not.

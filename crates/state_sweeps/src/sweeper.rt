@@ -154,6 +154,9 @@ impl Sweeper<'_> {
             second: self.rows.rows_of(&mut self.work, &node.second, layer),
         };
         self.rows.push(&mut self.work, step);
+        if node.is_sum() {
+            return;
+        }
         let times = match layer {
             Layer::State => 1,
             Layer::Beneath => 2,
@@ -205,6 +208,9 @@ impl Sweeper<'_> {
         };
         let layer = self.rows.layer(row);
         let vector = self.rows.take(&mut self.work, row);
+        if self.rows.is_definition(row) {
+            return;
+        }
         self.want(&node.first, layer);
         self.want(&node.second, layer);
         self.push_toggle(place, node, row, layer);

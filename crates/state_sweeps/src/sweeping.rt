@@ -192,22 +192,31 @@ impl Sweeper<'_> {
 
     fn gates_of(&self, step: &Step) -> u64 {
         let (onto, gates) = match step {
-            Step::Add { to, .. } => (*to, 1),
+            Step::Add { from, to } => (*to, u64::from(!self.rows.is_definition(*from))),
             Step::Toggle {
                 onto,
                 first,
                 second,
                 ..
             } => {
-                let rows = first.len().saturating_add(second.len()) as u64;
+                let rows = self.lines_in(first).saturating_add(self.lines_in(second));
                 (*onto, rows.saturating_mul(2).saturating_sub(3))
             }
-            Step::Begin(_) | Step::End { .. } | Step::Last(_) => return 0,
+            _ => return 0,
         };
         match self.rows.layer(onto) {
             Layer::State => gates,
             Layer::Beneath => gates.saturating_mul(2),
         }
+    }
+
+    // How many of some rows have lines.
+    fn lines_in(&self, rows: &[Row]) -> u64 {
+        let mut count: u64 = 0;
+        for row in rows {
+            count = count.saturating_add(u64::from(!self.rows.is_definition(*row)));
+        }
+        count
     }
 
     // The rows of the state are sums of inputs, which are inserted beneath: they begin as copies.
