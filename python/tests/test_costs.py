@@ -111,9 +111,9 @@ class Best(unittest.TestCase):
             best = multiplied.best("lines", toffoli=row.cost.toffoli)
             self.assertLessEqual(best.cost.toffoli, row.cost.toffoli)
             self.assertLessEqual(best.cost.lines, row.cost.lines)
-            best = multiplied.best("toffoli", lines=row.cost.lines, depth=row.cost.depth)
+            best = multiplied.best("toffoli", lines=row.lines, depth=row.cost.depth)  # on fewer a plan may not be found again
             self.assertLessEqual(best.cost.depth, row.cost.depth)
-            self.assertLessEqual(best.cost.lines, row.cost.lines)
+            self.assertLessEqual(best.cost.lines, row.lines)
         with self.assertRaisesRegex(RevcError, r"no circuit of `multiplied` is within toffoli=1, lines=16384|lines=16384, toffoli=1"):
             multiplied.best("lines", toffoli=1)
         with self.assertRaisesRegex(RevcError, "by='width': costs are counted by"):

@@ -8,6 +8,7 @@ from random import Random
 sys.path.insert(0, str(Path(__file__).resolve().parent.parent / "examples"))
 
 import sboxes
+import sums
 from revc import Bits, Netlist, Unsettled, oracle
 from test_files import ran_by_gates
 
@@ -53,6 +54,14 @@ class Formulas(unittest.TestCase):
     def test_choices(self) -> None:
         for one, other in ((choosing, choosing_by_or), (choosing_by_or, choosing)):
             self.assertEqual(one.verify(other.compile(), by="sums"), "verified")
+
+    def test_sums_by_prefixes(self) -> None:
+        """No cut of twelve sums tells them, wide ones do; a gate less, and they tell nothing."""
+        netlist = sums.by_prefixes.compile("pebble").netlist
+        self.assertEqual(sums.in_a_row.verify(netlist, by="sums"), "verified")
+        half = len(netlist.gates) // 2
+        with self.assertRaises(Unsettled):
+            sums.in_a_row.verify(replace(netlist, gates=netlist.gates[:half] + netlist.gates[half + 1:]), by="sums")
 
     def test_mutants(self) -> None:
         random, differing = Random(12), 0
