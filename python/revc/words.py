@@ -28,6 +28,7 @@ BUDGETS = ("plan", "lines", "gates", "borrow", "nodes")
 COMMANDS: Dict[str, Command] = {
     "compile": Command((), ("format", *BUDGETS, "assume", "outputs")),
     "check": Command((), ("nodes", "assume")),
+    "ands": Command((), ("nodes", "assume")),
     "eval": Command(("BITS",), ()),
     "run": Command(("BITS..",), ("from",), "a circuit"),
     "stat": Command((), ("from",), "a circuit"),

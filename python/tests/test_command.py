@@ -68,6 +68,7 @@ class Command(unittest.TestCase):
         self.gives("tidy alu.real -o tidied.real", "")
         self.gives("verify alu.py tidied.real", "verified")
         self.gives("check alu.revs", "claims 0")
+        self.gives("ands $EXAMPLES/majority.revs", "3 ANDs, 1 would do; AND depth 1")
         self.gives("run alu.py op=1 a=3 b=5", "out=14")
         self.gives("run alu.revs op=0 a=3 b=0x5", "out=8")
         self.gives(f"run alu.real {'0' * 25}", "0" * 25)
@@ -81,7 +82,7 @@ class Command(unittest.TestCase):
 
     def test_help(self) -> None:
         self.gives("--help", "compile")
-        for each in "compile costs check run stat verify convert tidy draw phase text".split():
+        for each in "compile costs ands check run stat verify convert tidy draw phase text".split():
             out = io.StringIO()
             with self.assertRaises(SystemExit) as ended, redirect_stdout(out):
                 main([each, "--help"])

@@ -17,7 +17,7 @@ AND = "main (a : bool) (b : bool) = a && b"
 
 # Words, and what is said of them.
 REFUSED = [
-    ("frobnicate", "there is no command `frobnicate`: compile, check, eval,"),
+    ("frobnicate", "there is no command `frobnicate`: compile, check, ands, eval,"),
     ("compil", "there is no command `compil`: is it `compile`?"),
     ("costs", "`costs` is a command of `python3 -m revc`, which works on files"),
     ("compile --line 3", "`compile` takes no `--line`: is it `--lines`?"),
@@ -34,6 +34,7 @@ REFUSED = [
     ("stat ./revc", "`stat` reads a circuit from standard input: write `< ./revc` in place of `./revc`"),
     ("compile --help", "`--help` stands alone: ./revc --help"),
     ("eval", "`eval` wants BITS, a digit 0 or 1 for each input"),
+    ("ands 3", "`ands` takes no `3`"),
     ("eval 10 11", "`eval` takes no `11`: it takes BITS alone"),
     ("gen 201", "`gen 201`: a number from 1 to 200"),
     ("arith mult 3", "`arith mult`: is it `mul`?"),
