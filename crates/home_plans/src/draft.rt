@@ -15,8 +15,8 @@ pub struct Toggle {
 const MOST_LOOKS: u64 = 5_000_000;
 
 /// The forward part of a plan, seen by its toggles: nodes are held on lines and cleared again. A
-/// node with a home is held there and stays. The others take the least free work line. No call
-/// fails: the first refusal is kept, and told by `finish`.
+/// node with a home is held there and stays. The others take the work line that has been
+/// free for longest. No call fails: the first refusal is kept, and told by `finish`.
 #[derive(Drop)]
 pub struct Draft<'n> {
     pub nodes: &'n Nodes,
