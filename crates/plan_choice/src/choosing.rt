@@ -12,7 +12,7 @@ use crate::fewer::worth_a_search;
 use crate::laying::{Tried, is_refused, lay_eager};
 use crate::lean::lay_lean;
 use crate::search::lay_pebbling;
-use crate::shallow::or_shallower;
+use crate::shallow::{or_of_longer_sums, or_shallower};
 use bit_sums::MOST_FACTOR_BITS;
 use circuit_plans::{Budget, Laid, Plan, PlanFault, Start};
 use claim_check::Settled;
@@ -116,5 +116,6 @@ fn shallow_plan(alloc: Global, graph: &Settled, budget: &Budget) -> Tried
     let tried = lay_lean(alloc, graph, &lean, fewer.as_ref(), budget, Start::Any);
     let fewer = worth_a_search(&lean, fewer.as_ref());
     let tried = or_shallower(alloc, graph, fewer, budget, tried);
+    let tried = or_of_longer_sums(alloc, graph, budget, tried);
     or_copied(alloc, graph, budget, tried)
 }

@@ -40,7 +40,7 @@ pub fn or_copied(alloc: Global, graph: &Settled, budget: &Budget, tried: Tried) 
 }
 
 // Whether the Toffoli depth is at most twice the AND depth.
-fn is_small(alloc: Global, graph: &Settled, laid: &Laid) -> Result<bool, Memory>
+pub fn is_small(alloc: Global, graph: &Settled, laid: &Laid) -> Result<bool, Memory>
     ensures { IfOk result (λ small. IsTrue small
         → toffoli_depth_of laid.now.circuit.gates ≤ 2 * and_depth graph.now.nodes) }
 {

@@ -9,6 +9,7 @@ ghost use Rattle.flip_orders.specs.Orders.{IsReorderedPlan};
 ghost use Rattle.plan_choice.specs.Choices.{IsChoiceFault};
 ghost use Rattle.plan_choice.specs.inside.Tried.{HasOutputsOf, IsShallowFor};
 
+use crate::copied::is_small;
 use crate::laying::{Tried, lay_narrow};
 use crate::singles::{Planner, plan_single, plan_single_of};
 use circuit_plans::{Budget, Laid, PlanFault, Planned, Start};
@@ -43,6 +44,27 @@ pub fn or_shallower(
     };
     let planned = plan_single_of(alloc, graph, fewer, budget, Start::Any, Planner::Layers)?;
     or_laid(alloc, graph, budget, best, planned)
+}
+
+// The plan that was tried, or one that the planner finds over a graph of longer sums, where that is
+// better by depth or no plan was laid. It is asked only where too few lines kept the depth above
+// twice the AND depth.
+pub fn or_of_longer_sums(alloc: Global, graph: &Settled, budget: &Budget, tried: Tried) -> Tried
+    requires ports { HasPortLines (ports_of graph.now) budget.now }
+    requires ok { IfOk tried (IsShallowFor graph.now budget.now) }
+    requires refused { IfErr tried (IsChoiceFault Shallow graph.now budget.now) }
+    ensures ok { IfOk result (IsShallowFor graph.now budget.now) }
+    ensures refused { IfErr result (IsChoiceFault Shallow graph.now budget.now) }
+{
+    let is_least = match &tried {
+        Ok(laid) => is_small(alloc, graph, laid)?,
+        Err(_) => false,
+    };
+    if is_least {
+        return tried;
+    }
+    let planned = plan_single(alloc, graph, budget, Start::Any, Planner::LongLayers)?;
+    or_laid(alloc, graph, budget, tried, planned)
 }
 
 // The plan that was tried, with its gates in the best order, or the one that was found, laid, where

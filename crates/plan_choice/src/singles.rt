@@ -6,6 +6,7 @@ ghost use Rattle.plan_choice.specs.inside.Tried.{HasOutputsOf};
 
 use crate::lean::limits_of;
 use crate::scripts::follow_moves;
+use bit_sums::MOST_FACTOR_BITS;
 use circuit_plans::{Budget, Planned, Start};
 use claim_check::Settled;
 use line_moves::Moves;
@@ -20,6 +21,8 @@ use sum_graph::SumGraph;
 pub enum Planner {
     // One of small Toffoli depth.
     Layers,
+    // The same over a graph of longer sums, which takes fewer lines.
+    LongLayers,
     // One with a state on the output lines, which begin at 0.
     State,
 }
@@ -29,6 +32,7 @@ impl Planner {
     fn short_bits(self) -> usize {
         match self {
             Planner::Layers => 2,
+            Planner::LongLayers => MOST_FACTOR_BITS,
             Planner::State => 1,
         }
     }
@@ -36,14 +40,14 @@ impl Planner {
     // Whether its output lines may hold that at the start.
     fn takes(self, start: Start) -> bool {
         match self {
-            Planner::Layers => true,
+            Planner::Layers | Planner::LongLayers => true,
             Planner::State => start == Start::Zero,
         }
     }
 
     fn moves(self, alloc: Global, sums: &SumGraph, limits: Limits) -> Result<Moves, Stop> {
         match self {
-            Planner::Layers => shallow_plans::plan(alloc, sums, limits),
+            Planner::Layers | Planner::LongLayers => shallow_plans::plan(alloc, sums, limits),
             Planner::State => state_plans::plan(alloc, sums, limits),
         }
     }
