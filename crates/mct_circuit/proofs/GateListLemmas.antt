@@ -13,6 +13,13 @@ pub lines_below : (n : ℕ) (gates : List GateView) (i : ℕ) (gate : GateView) 
     → AllByRecursion (λ line. line < n) (lines_of gate)
 lines_below n gates i gate g h e = (rw (← e) at (AllByRecursion-at (IsGateOn n) gates i gate g h)).in_range
 
+-- the same where the gate is read of a slice
+pub lines_below_in : (n : ℕ) (gates slice : List GateView) (i : ℕ) (gate : GateView) (long : ℕ) → long ≡ n → slice ≡ gates → AreGatesOn n gates
+    → i < length gates → gate ≡ get_or slice i gate → AllByRecursion (λ line. line < long) (lines_of gate)
+lines_below_in n gates slice i gate long same is on low e =
+    subst (λ (m : ℕ). AllByRecursion (λ line. line < m) (lines_of gate)) (sym same)
+    (lines_below n gates i gate on low (subst (λ (gs : List GateView). gate ≡ get_or gs i gate) is e))
+
 -- the lines of the controls of a gate are below
 pub controls_below : (n : ℕ) (controls : List Control) (targets : List ℕ)
     → AllByRecursion (λ line. line < n) (map (λ (control : Control). control.line) controls ++ targets)

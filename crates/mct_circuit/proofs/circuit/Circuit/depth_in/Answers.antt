@@ -1,18 +1,17 @@
-use Rattle.std.proofs.Common.{◌≡◌, ◌+◌, ◌<◌, length, max, take, drop, reverse, sym, ap, ◌∙◌, arith}
+use Rattle.std.proofs.Common.{◌≡◌, ◌+◌, length, max, take, drop, reverse, sym, ap, ◌∙◌, arith}
 use Rattle.std.proofs.lemmas.List.{take_at, take_all, length-reverse, length-take-le}
 use Rattle.mct_circuit.specs.Gates.{lines_of}
 use Rattle.mct_circuit.specs.Sizes.{depth_by, gate_depth, greatest_at}
 use Rattle.mct_circuit.specs.inside.Counting.{weight_for}
-use Rattle.mct_circuit.proofs.GateListLemmas.{lines_below}
+use Rattle.mct_circuit.proofs.GateListLemmas.{lines_below_in}
 use Rattle.mct_circuit.proofs.DepthLemmas.{gate_depth_on, greatest_at-depths, depth_on-le, depths_more, latest_first, one_at_most}
 use Rattle.mct_circuit.proofs.circuit.Circuit.depth_in.Goals as goal
 
 pub greatest_on-requires : goal.greatest_on-requires
 greatest_on-requires c =
-    let here : c.loop-gate.gate-index < length c.self.inside.gates.items = omega (arith, ap length c.deref-gate-items.ensures.value) in
-    let long = ap length c.deref.ensures.value ∙ c.loop-gate.invariant.2 ∙ ap (λ v. v.lines) (sym c.self.view_is) in
-    rw long (lines_below _ c.self.inside.gates.items c.loop-gate.gate-index c.gate-item.result c.self.invariant.0 here
-    (rw c.deref-gate-items.ensures.value at c.gate-item.is))
+    lines_below_in _ c.self.inside.gates.items _ c.loop-gate.gate-index c.gate-item.result _
+    (ap length c.deref.ensures.value ∙ c.loop-gate.invariant.2 ∙ ap (λ v. v.lines) (sym c.self.view_is))
+    c.deref-gate-items.ensures.value c.self.invariant.0 (omega (arith, ap length c.deref-gate-items.ensures.value)) c.gate-item.is
 
 pub overflow_add-depth : goal.overflow_add-depth
 overflow_add-depth c =
@@ -28,10 +27,9 @@ overflow_add-depth c =
 
 pub set_all-requires : goal.set_all-requires
 set_all-requires c =
-    let here : c.loop-gate.gate-index < length c.self.inside.gates.items = omega (arith, ap length c.deref-gate-items.ensures.value) in
-    let long = ap length c.deref_mut.ensures.value ∙ c.loop-gate.invariant.2 ∙ ap (λ v. v.lines) (sym c.self.view_is) in
-    rw long (lines_below _ c.self.inside.gates.items c.loop-gate.gate-index c.gate-item.result c.self.invariant.0 here
-    (rw c.deref-gate-items.ensures.value at c.gate-item.is))
+    lines_below_in _ c.self.inside.gates.items _ c.loop-gate.gate-index c.gate-item.result _
+    (ap length c.deref_mut.ensures.value ∙ c.loop-gate.invariant.2 ∙ ap (λ v. v.lines) (sym c.self.view_is))
+    c.deref-gate-items.ensures.value c.self.invariant.0 (omega (arith, ap length c.deref-gate-items.ensures.value)) c.gate-item.is
 
 pub loop-gate-preserved : goal.loop-gate-preserved
 loop-gate-preserved c =
