@@ -1,7 +1,7 @@
 // Which nodes are cleared before the end.
-use crate::graph::{LayerGraph, Node};
-use crate::tables::raise;
 use crate::times::Times;
+use layer_graphs::tables::raise;
+use layer_graphs::{LayerGraph, Node};
 use plan_tools::{Table, Work};
 
 /// How much is cleared before the end: of each symbol its part, how many of the first parts are

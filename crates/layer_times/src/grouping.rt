@@ -1,5 +1,5 @@
 // Sums of nodes that later parts use in their place.
-use crate::graph::{Factors, LayerGraph, Node};
+use layer_graphs::{Factors, LayerGraph, Node};
 use plan_tools::{NOWHERE, Table, Work, list_at, number};
 
 /// A graph, with the parts of its symbols.

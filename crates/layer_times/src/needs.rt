@@ -1,7 +1,7 @@
 // What still needs each node.
 use crate::cleaning::Clearing;
-use crate::graph::LayerGraph;
-use crate::tables::count;
+use layer_graphs::LayerGraph;
+use layer_graphs::tables::count;
 use plan_tools::{Table, Work};
 
 /// Of each symbol how often it is needed yet: to be made itself, and by the nodes that use it when

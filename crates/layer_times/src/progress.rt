@@ -1,6 +1,6 @@
 // How far the parts of a graph are done.
 use crate::cleaning::Clearing;
-use crate::graph::LayerGraph;
+use layer_graphs::LayerGraph;
 use plan_tools::{Table, Work};
 
 /// How much of each part is left to be done.

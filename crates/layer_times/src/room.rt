@@ -1,5 +1,5 @@
 // Which work lines are taken.
-use crate::graph::LayerGraph;
+use layer_graphs::LayerGraph;
 use plan_tools::{Table, Work};
 
 /// The work lines that are taken: a line for each node that is made and not cleared, and in each

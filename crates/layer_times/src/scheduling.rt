@@ -1,10 +1,10 @@
 // A list schedule of nodes within a limit of lines.
 use crate::cleaning::Clearing;
-use crate::graph::LayerGraph;
 use crate::needs::Needs;
 use crate::progress::Progress;
 use crate::room::Room;
 use crate::times::Times;
+use layer_graphs::LayerGraph;
 use plan_tools::{Table, Work, number};
 use std::mem;
 

@@ -1,10 +1,9 @@
 // The best of the plans that clean so many parts.
 use crate::cleaning::{Clearing, Plan};
-use crate::graph::LayerGraph;
 use crate::grouping::{Parted, grouped};
-use crate::parts::Widths;
 use crate::scheduling::{Demand, Limit, Timetable, schedule_within};
 use crate::times::Times;
+use layer_graphs::{LayerGraph, Widths};
 use plan_tools::Work;
 
 // Into how many parts the nodes are cut.

@@ -1,6 +1,5 @@
 // The latest times at which nodes can be made.
-use crate::graph::{LayerGraph, Node};
-use crate::tables::highest;
+use layer_graphs::{LayerGraph, Node, levels};
 use plan_tools::{Table, Work};
 
 /// The latest times of nodes. Products are in layers, which count from 1; nodes without a product
@@ -117,20 +116,6 @@ impl Times {
         }
         boundary
     }
-}
-
-/// Of each symbol the most of the levels of its bits, where an input has level 0, and of those of
-/// its factors and one more.
-pub fn levels(work: &mut Work, graph: &LayerGraph) -> Table<u32> {
-    let mut levels = Table::new(work, graph.symbols() as usize, 0);
-    for symbol in graph.inputs..graph.symbols() {
-        let [bits, first, second] = graph.operands(symbol);
-        let below = highest(&levels, first).max(highest(&levels, second));
-        let behind = u32::from(!graph.is_linear(symbol));
-        let level = highest(&levels, bits).max(below.saturating_add(behind));
-        levels.set(symbol, level);
-    }
-    levels
 }
 
 // The times at which nodes come where no one asks for them sooner.

@@ -1,6 +1,7 @@
 // The best of the plans in layers.
 use crate::writer::{Style, Written, write};
-use layer_times::{Found, LayerGraph, best_timetable, straighten};
+use layer_graphs::{LayerGraph, straighten};
+use layer_times::{Found, best_timetable};
 use line_moves::Moves;
 use plan_tools::{Limits, Stop, Work};
 use std::alloc::Global;

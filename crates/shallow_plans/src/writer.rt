@@ -1,6 +1,7 @@
 // The moves of a plan in layers.
+use layer_graphs::{LayerGraph, Node};
 use layer_lines::Lines;
-use layer_times::{Clearing, Found, Layer, LayerGraph, Node, Room, Timetable};
+use layer_times::{Clearing, Found, Layer, Room, Timetable};
 use line_moves::Moves;
 use plan_tools::{NOWHERE, Stop, Work};
 use std::alloc::Global;

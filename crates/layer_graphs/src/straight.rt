@@ -1,7 +1,7 @@
 // Which products go straight onto the lines of outputs.
 use crate::graph::{LayerGraph, Onto};
+use crate::level::levels;
 use crate::tables::count;
-use crate::times::levels;
 use plan_tools::{Table, Work};
 
 // A product that may go straight onto the line of an output.
