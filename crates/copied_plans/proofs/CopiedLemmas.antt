@@ -114,6 +114,27 @@ next_copied assignment made bits one other value bit rest are same next =
     (subst (λ (k : ℕ). AreCopied (sums_made assignment (((made ++ one ∷ []) ++ other ∷ []) ++ value ∷ []) (copied_nodes k rest))
     (made_by assignment (bits ++ value ∷ []) rest)) (length-append bits (value ∷ [])) (next (three_more made bits are one other value)))
 
+-- a node of two operands, and those behind it
+two_alike : (assignment : ℕ → Bool) (n : ℕ) (made bits : List Bool) (op : Bool → Bool → Bool) (node : Node) (a b : Base) (rest : List Node)
+    → AreCopied made bits → IsKnownBase n (length bits) a → IsKnownBase n (length bits) b → AreKnownNodes n (length bits + 1) rest
+    → ((both : List Bool) → node_bit assignment both (on_copies (3 * length bits) node) ≡ op (bit_of both (3 * length bits)) (bit_of both (3 * length bits + 1)))
+    → ((m bs : List Bool) → AreCopied m bs → AreKnownNodes n (length bs) rest
+    → AreCopied (sums_made assignment m (copied_nodes (length bs) rest)) (made_by assignment bs rest))
+    → AreCopied (sums_made assignment made (copy_of a ∷ copy_of b ∷ plain_sum (on_copies (3 * length bits) node) ∷ copied_nodes (length bits + 1) rest))
+    (made_by assignment (bits ++ op (base_bit assignment bits a) (base_bit assignment bits b) ∷ []) rest)
+two_alike assignment n made bits op node a b rest are known_a known_b known computes next =
+    let one = sum_bit assignment made (copy_of a) in
+    let other = sum_bit assignment (made ++ one ∷ []) (copy_of b) in
+    let both = (made ++ one ∷ []) ++ other ∷ [] in
+    let value = sum_bit assignment both (plain_sum (on_copies (3 * length bits) node)) in
+    let first = first_bit made bits are one other value ∙ base_value assignment made (copied_base a) ∙ base_alike assignment made bits n a are known_a in
+    let second = second_bit made bits are one other value ∙ base_value assignment (made ++ one ∷ []) (copied_base b)
+    ∙ later_base assignment made bits n one b are known_b in
+    next_copied assignment made bits one other value (op (base_bit assignment bits a) (base_bit assignment bits b)) rest are
+    (plain_value assignment both (on_copies (3 * length bits) node) ∙ computes both ∙ ap₂ op first second)
+    (λ now. next (both ++ value ∷ []) (bits ++ value ∷ []) now
+    (subst (λ (k : ℕ). AreKnownNodes n k rest) (sym (length-append bits (value ∷ []))) known))
+
 nodes_alike : (assignment : ℕ → Bool) (n : ℕ) (made bits : List Bool) (nodes : List Node) → AreCopied made bits → AreKnownNodes n (length bits) nodes
     → AreCopied (sums_made assignment made (copied_nodes (length bits) nodes)) (made_by assignment bits nodes)
 nodes_alike assignment n made bits [] are known = are
@@ -130,29 +151,9 @@ nodes_alike assignment n made bits (Not a ∷ rest) are known =
     (λ now. nodes_alike assignment n (both ++ value ∷ []) (bits ++ value ∷ []) rest now
     (subst (λ (k : ℕ). AreKnownNodes n k rest) (sym (length-append bits (value ∷ []))) known.1))
 nodes_alike assignment n made bits (Xor a b ∷ rest) are known =
-    let one = sum_bit assignment made (copy_of a) in
-    let other = sum_bit assignment (made ++ one ∷ []) (copy_of b) in
-    let both = (made ++ one ∷ []) ++ other ∷ [] in
-    let value = sum_bit assignment both (plain_sum (on_copies (3 * length bits) (Xor a b))) in
-    let first = first_bit made bits are one other value ∙ base_value assignment made (copied_base a) ∙ base_alike assignment made bits n a are known.0.0 in
-    let second = second_bit made bits are one other value ∙ base_value assignment (made ++ one ∷ []) (copied_base b)
-    ∙ later_base assignment made bits n one b are known.0.1 in
-    next_copied assignment made bits one other value (xor (base_bit assignment bits a) (base_bit assignment bits b)) rest are
-    (plain_value assignment both (on_copies (3 * length bits) (Xor a b)) ∙ ap₂ xor first second)
-    (λ now. nodes_alike assignment n (both ++ value ∷ []) (bits ++ value ∷ []) rest now
-    (subst (λ (k : ℕ). AreKnownNodes n k rest) (sym (length-append bits (value ∷ []))) known.1))
+    two_alike assignment n made bits xor (Xor a b) a b rest are known.0.0 known.0.1 known.1 (λ both. refl) (λ m bs. nodes_alike assignment n m bs rest)
 nodes_alike assignment n made bits (And a b ∷ rest) are known =
-    let one = sum_bit assignment made (copy_of a) in
-    let other = sum_bit assignment (made ++ one ∷ []) (copy_of b) in
-    let both = (made ++ one ∷ []) ++ other ∷ [] in
-    let value = sum_bit assignment both (plain_sum (on_copies (3 * length bits) (And a b))) in
-    let first = first_bit made bits are one other value ∙ base_value assignment made (copied_base a) ∙ base_alike assignment made bits n a are known.0.0 in
-    let second = second_bit made bits are one other value ∙ base_value assignment (made ++ one ∷ []) (copied_base b)
-    ∙ later_base assignment made bits n one b are known.0.1 in
-    next_copied assignment made bits one other value (base_bit assignment bits a && base_bit assignment bits b) rest are
-    (plain_value assignment both (on_copies (3 * length bits) (And a b)) ∙ ap₂ ◌&&◌ first second)
-    (λ now. nodes_alike assignment n (both ++ value ∷ []) (bits ++ value ∷ []) rest now
-    (subst (λ (k : ℕ). AreKnownNodes n k rest) (sym (length-append bits (value ∷ []))) known.1))
+    two_alike assignment n made bits ◌&&◌ (And a b) a b rest are known.0.0 known.0.1 known.1 (λ both. refl) (λ m bs. nodes_alike assignment n m bs rest)
 
 made_length : (assignment : ℕ → Bool) (bits : List Bool) (nodes : List Node) → length (made_by assignment bits nodes) ≡ length bits + length nodes
 made_length assignment bits [] = omega arith
