@@ -1,6 +1,6 @@
 -- Forms: sums of two, and axes that are added.
-use Rattle.std.proofs.Common.{◌≡◌, ℕ, ◌+◌, ◌-◌, ◌<◌, ◌≤◌, ◌^◌, ◌==◌, bit_xor, Bool, true, false, List, [], ◌∷◌, ◌++◌, length, take, slice_get, Some}
-use Rattle.std.proofs.Common.{refl, sym, ap, ap₂, ◌∙◌, subst}
+use Rattle.std.proofs.Common.{◌≡◌, ℕ, ◌+◌, ◌-◌, ◌≤◌, ◌^◌, ◌==◌, bit_xor, Bool, true, false, List, [], ◌∷◌, ◌++◌, length, take, slice_get, Some}
+use Rattle.std.proofs.Common.{refl, ap, ap₂, ◌∙◌, subst}
 use Rattle.std.specs.Bool.{xor}
 use Rattle.std.proofs.lemmas.List.{take_all, take_more}
 use Rattle.std.proofs.lemmas.Nat.Bits.{bit_at-zero}
@@ -10,12 +10,11 @@ use Rattle.list_facts.proofs.BitLemmas.{xor_nothing}
 use Rattle.list_facts.proofs.TableLemmas.{of_four_bits}
 use Rattle.circuit_sim.specs.Planes.{plane_bit}
 use Rattle.circuit_sim.proofs.PlaneLemmas.{plane_bit-ones, plane_bit-xor}
-use Rattle.dependency_graph.specs.declared.node.Base.{Base}
 use Rattle.bit_sums.specs.Bits.{apart}
 use Rattle.bit_sums.specs.Sums.{xor_by}
 use Rattle.bit_sums.proofs.SetLemmas.{value-apart}
 use Rattle.wide_sums.specs.declared.form.Form.{Form}
-use Rattle.wide_sums.specs.inside.Forms.{AreZero, IsFormSum, IsOnes, IsReduced, form_value}
+use Rattle.wide_sums.specs.inside.Forms.{IsFormSum, IsOnes, IsReduced, form_value}
 
 pub interchange : (a b c d : Bool) → xor (xor a b) (xor c d) ≡ xor (xor a c) (xor b d)
 unfolding mathlib.Core.Bool.xor

@@ -1,6 +1,6 @@
 -- Forms of sums, over bases whose forms are known.
-use Rattle.std.proofs.Common.{◌≡◌, ℕ, ◌+◌, ◌≤◌, bit_and, bit_xor, Bool, false, ◌&&◌, List, [], ◌∷◌, ◌++◌, length, take, slice_get, Some}
-use Rattle.std.proofs.Common.{refl, sym, ap, ap₂, ◌∙◌, subst}
+use Rattle.std.proofs.Common.{◌≡◌, ℕ, ◌+◌, ◌≤◌, bit_and, bit_xor, Bool, false, ◌&&◌, List, [], ◌∷◌, length, take, slice_get, Some}
+use Rattle.std.proofs.Common.{sym, ap, ap₂, ◌∙◌, subst}
 use Rattle.std.specs.Bool.{xor}
 use Rattle.std.proofs.lemmas.List.{take_all}
 use Rattle.std.proofs.lemmas.Option.{get_or_from_slice_get, slice_get_within}
@@ -10,7 +10,7 @@ use Rattle.circuit_sim.specs.Planes.{plane_bit}
 use Rattle.circuit_sim.proofs.PlaneLemmas.{plane_bit-and, plane_bit-xor}
 use Rattle.dependency_graph.specs.declared.node.Base.{Base}
 use Rattle.dependency_graph.specs.declared.node.Base.TheVariants as bases
-use Rattle.bit_sums.specs.Sums.{ProductView, SumView, product_value, sum_value, xor_by}
+use Rattle.bit_sums.specs.Sums.{ProductView, SumView, product_value, xor_by}
 use Rattle.bit_sums.proofs.SetLemmas.{value-append}
 use Rattle.wide_sums.specs.declared.form.Form.{Form}
 use Rattle.wide_sums.specs.declared.known.Known.{Known}

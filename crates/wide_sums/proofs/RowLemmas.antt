@@ -1,5 +1,5 @@
 -- Rows and turns: each list of values is that of the variables in some row of some turn.
-use Rattle.std.proofs.Common.{◌≡◌, ◌≢◌, ℕ, zero, suc, ◌+◌, ◌-◌, ◌*◌, ◌/◌, ◌%◌, ◌^◌, ◌<◌, ◌≤◌, ◌==◌, Bool, true, false, ◌&&◌, cond, List, [], ◌∷◌, ◌++◌, length, map, take, drop, nat_lt}
+use Rattle.std.proofs.Common.{◌≡◌, ◌≢◌, ℕ, zero, suc, ◌+◌, ◌-◌, ◌*◌, ◌/◌, ◌%◌, ◌^◌, ◌<◌, ◌≤◌, ◌==◌, Bool, true, false, ◌&&◌, cond, List, [], ◌∷◌, ◌++◌, length, take, drop, nat_lt}
 use Rattle.std.proofs.Common.{get_or, slice_get, Some, refl, sym, ap, ap₂, ◌∙◌, subst, arith, inl, inr, ◌⊎◌}
 use Rattle.std.specs.Bool.{xor}
 use Rattle.std.specs.Global.{Vec}
@@ -11,12 +11,13 @@ use Rattle.std.proofs.Math.Nat.{div-div-eq-div-mul, pow-le-pow_right, pow-suc}
 use Rattle.list_facts.specs.Bits.{bit_of}
 use Rattle.list_facts.proofs.AllLemmas.{AllByRecursion-push}
 use Rattle.list_facts.proofs.BitLemmas.{xor_same}
+use Rattle.list_facts.proofs.TableLemmas.{of_one_bit, same_table_1}
 use Rattle.circuit_sim.specs.Planes.{plane_bit}
 use Rattle.dependency_graph.specs.declared.node.Base.{Base}
-use Rattle.bit_sums.specs.Sums.{SumView, sum_value, xor_by}
+use Rattle.bit_sums.specs.Sums.{SumView, xor_by}
 use Rattle.wide_sums.specs.declared.form.Form.{Form}
-use Rattle.wide_sums.specs.Wide.{Holds, Vanishes}
-use Rattle.wide_sums.specs.inside.Forms.{AreZero, IsOnes, VanishesOver, form_value}
+use Rattle.wide_sums.specs.Wide.{Vanishes}
+use Rattle.wide_sums.specs.inside.Forms.{IsOnes, VanishesOver, form_value}
 use Rattle.wide_sums.specs.inside.Rows.{AreAxes, HasValues, IsVariable, VanishesIn, values_of, variable_bit}
 
 -- ---- tables
@@ -38,23 +39,16 @@ at_each (suc n) test all k low = elim (last_or_before k n low) as (λ _. test k 
   | inr before ↦ at_each n test (and_parts (test n) (all_below n test) all).1 k before
 ]
 
-abbrev same : Bool → Bool → Bool
-same true b = b
-same false true = false
-same false false = true
-
-is_same : (a b : Bool) → same a b ≡ true → a ≡ b
-is_same true b e = sym e
-is_same false true e = e
-is_same false false e = refl
-
 -- ---- variables
 
+-- whether a word has in a row the bit at a place of the row's number
+abbrev has_bit : ℕ → ℕ → ℕ → Bool
+has_bit place word row = same_table_1 (λ _. plane_bit row word) (λ _. plane_bit place row)
+
 -- a word that has the bit at a place of each row's number
-in_all_rows : (place word : ℕ) → all_below 64 (λ row. same (plane_bit row word) (plane_bit place row)) ≡ true → (row : ℕ) → row < 64
-    → plane_bit row word ≡ plane_bit place row
+in_all_rows : (place word : ℕ) → all_below 64 (has_bit place word) ≡ true → (row : ℕ) → row < 64 → plane_bit row word ≡ plane_bit place row
 in_all_rows place word all row low =
-    is_same (plane_bit row word) (plane_bit place row) (at_each 64 (λ k. same (plane_bit k word) (plane_bit place k)) all row low)
+    of_one_bit (λ _. plane_bit row word) (λ _. plane_bit place row) (at_each 64 (has_bit place word) all row low) true
 
 abbrev pub variables : List ℕ
 variables = 0xaaaa_aaaa_aaaa_aaaa ∷ 0xcccc_cccc_cccc_cccc ∷ 0xf0f0_f0f0_f0f0_f0f0 ∷ 0xff00_ff00_ff00_ff00 ∷ 0xffff_0000_ffff_0000 ∷ 0xffff_ffff_0000_0000 ∷ []

@@ -1,13 +1,12 @@
 -- Products that go out of a list or come in, and sums of two.
 use Rattle.std.proofs.Common.{◌≡◌, ℕ, ◌+◌, ◌≤◌, Bool, List, [], ◌∷◌, ◌++◌, length, take, slice_get, Some}
-use Rattle.std.proofs.Common.{refl, sym, ap, ap₂, ◌∙◌, subst}
+use Rattle.std.proofs.Common.{sym, ap, ap₂, ◌∙◌, subst}
 use Rattle.std.specs.Bool.{xor}
 use Rattle.std.specs.List.{swap_remove}
 use Rattle.std.proofs.lemmas.List.{take_all}
 use Rattle.list_facts.proofs.BitLemmas.{xor_left, xor_nothing, xor_same, xor_swap, xor_none}
-use Rattle.dependency_graph.specs.declared.node.Base.{Base}
 use Rattle.bit_sums.specs.Bits.{apart}
-use Rattle.bit_sums.specs.Sums.{ProductView, SumView, product_value, sum_value, xor_by}
+use Rattle.bit_sums.specs.Sums.{ProductView, SumView, product_value, xor_by}
 use Rattle.bit_sums.proofs.GrowingLemmas.{taken, value-permutation}
 use Rattle.bit_sums.proofs.SetLemmas.{value-append, value-apart}
 use Rattle.wide_sums.specs.Wide.{IsAdded}

@@ -1,11 +1,10 @@
 -- Windows: nodes that are opened one after another, and sums that vanish.
-use Rattle.std.proofs.Common.{◌≡◌, ℕ, ◌<◌, Bool, false, List, [], ◌∷◌, ◌++◌, slice_get, Some}
-use Rattle.std.proofs.Common.{refl, sym, ap, ap₂, ◌∙◌}
+use Rattle.std.proofs.Common.{◌≡◌, ℕ, false, List, [], ◌∷◌, ◌++◌, slice_get, Some}
+use Rattle.std.proofs.Common.{sym, ap, ap₂, ◌∙◌}
 use Rattle.std.specs.Bool.{xor}
 use Rattle.list_facts.proofs.AllLemmas.{AllByRecursion-push}
 use Rattle.list_facts.proofs.BitLemmas.{xor_nothing}
 use Rattle.circuit_sim.specs.Planes.{plane_bit}
-use Rattle.dependency_graph.specs.declared.node.Base.{Base}
 use Rattle.dependency_graph.specs.declared.node.Base.TheVariants as bases
 use Rattle.bit_sums.specs.Sums.{SumView, xor_by}
 use Rattle.wide_sums.specs.declared.form.Form.{Form}

@@ -17,6 +17,13 @@ pub struct Known {
     pub form: Form,
 }
 
+// The axes of which factors are to be sums, and the nodes whose forms are known.
+#[derive(Clone, Copy)]
+struct Given<'g> {
+    axes: &'g [Form],
+    known: &'g [Known],
+}
+
 /// The form of a sum; none where a factor is no sum of axes.
 pub fn form_of_sum(
     alloc: Global,
@@ -26,7 +33,8 @@ pub fn form_of_sum(
 ) -> Result<Option<Form>, Memory>
     ensures { IfOk result (λ found. IfSome found (IsSumForm axes.now known.now sum.now)) }
 {
-    let Some(word) = word_of_products(alloc, axes, known, sum.products())? else {
+    let given = Given { axes, known };
+    let Some(word) = word_of_products(alloc, given, sum.products())? else {
         return Ok(None);
     };
     let form = form_of(alloc, known, sum.bits())?;
@@ -39,16 +47,15 @@ pub fn form_of_sum(
 // The word of the sum of some products.
 fn word_of_products(
     alloc: Global,
-    axes: &[Form],
-    known: &[Known],
+    given: Given<'_>,
     products: &[WideProduct],
 ) -> Result<Option<u64>, Memory>
-    ensures { IfOk result
-        (λ found. IfSome found (AreProductsWord axes.now known.now products.now)) }
+    ensures { IfOk result (λ found.
+        IfSome found (AreProductsWord given.entry.axes.now given.entry.known.now products.now)) }
 {
     let mut sum = 0;
     for product in products {
-        let Some(word) = word_of_product(alloc, axes, known, product)? else {
+        let Some(word) = word_of_product(alloc, given, product)? else {
             return Ok(None);
         };
         sum ^= word;
@@ -59,32 +66,28 @@ fn word_of_products(
 // The word of a product.
 fn word_of_product(
     alloc: Global,
-    axes: &[Form],
-    known: &[Known],
+    given: Given<'_>,
     product: &WideProduct,
 ) -> Result<Option<u64>, Memory>
-    ensures { IfOk result (λ found. IfSome found (IsProductWord axes.now known.now product.now)) }
+    ensures { IfOk result (λ found.
+        IfSome found (IsProductWord given.entry.axes.now given.entry.known.now product.now)) }
 {
-    let Some(first) = word_of(alloc, axes, known, product.first())? else {
+    let Some(first) = word_of(alloc, given, product.first())? else {
         return Ok(None);
     };
-    let Some(second) = word_of(alloc, axes, known, product.second())? else {
+    let Some(second) = word_of(alloc, given, product.second())? else {
         return Ok(None);
     };
     Ok(Some(first & second))
 }
 
 // The word of some bits; none where they are no sum of axes.
-fn word_of(
-    alloc: Global,
-    axes: &[Form],
-    known: &[Known],
-    bits: &[Base],
-) -> Result<Option<u64>, Memory>
-    ensures { IfOk result (λ found. IfSome found (IsWordOf axes.now known.now bits.now)) }
+fn word_of(alloc: Global, given: Given<'_>, bits: &[Base]) -> Result<Option<u64>, Memory>
+    ensures { IfOk result (λ found.
+        IfSome found (IsWordOf given.entry.axes.now given.entry.known.now bits.now)) }
 {
-    let form = form_of(alloc, known, bits)?;
-    let form = form.reduced(alloc, axes)?;
+    let form = form_of(alloc, given.known, bits)?;
+    let form = form.reduced(alloc, given.axes)?;
     Ok(form.word_alone())
 }
 

@@ -1,5 +1,5 @@
 use Rattle.std.proofs.Common.{IfSome, ℕ, Option, refl, subst}
-use Rattle.wide_sums.specs.inside.Forms.{AreProductsWord, IsFormOf, IsOnes}
+use Rattle.wide_sums.specs.inside.Forms.{AreProductsWord}
 use Rattle.wide_sums.proofs.KnownLemmas.{sum_form}
 use Rattle.wide_sums.proofs.known.form_of_sum.Goals as goal
 

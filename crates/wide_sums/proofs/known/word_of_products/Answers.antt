@@ -12,7 +12,7 @@ loop-product-preserved c =
     let products = c.args.products.now in
     let product = c.product-item.result in
     let e = slice_get_read products (length products) c.loop-product.product-index _ refl c.loop-product-test.true c.product-item.is in
-    let P = IsProductWord c.args.axes.now c.args.known.now product in
+    let P = IsProductWord c.args.given.axes.now c.args.given.known.now product in
     products_next _ _ _ c.loop-product.product-index _ _ _ e c.loop-product.invariant
     (subst (λ (found : Option ℕ). IfSome found P) c.in-Some.is c.in_ok-word.ensures)
 

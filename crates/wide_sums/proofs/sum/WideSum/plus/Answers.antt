@@ -1,4 +1,4 @@
-use Rattle.std.proofs.Common.{◌≡◌, ap₂, ◌∙◌}
+use Rattle.std.proofs.Common.{ap₂, ◌∙◌}
 use Rattle.std.specs.Bool.{xor}
 use Rattle.list_facts.proofs.BitLemmas.{not-beq}
 use Rattle.wide_sums.proofs.ToggleLemmas.{added}
