@@ -178,11 +178,17 @@ pub product_follows : (given n : ℕ) (ks : List Known) (f g p : FormView) → I
 product_follows given n ks f g p table is atom by = is atom (table.true_of atom by)
 
 -- the same of an answer, where there is one
-pub found_product : {E : Type 0} (given n : ℕ) (ks : List Known) (f g : FormView) (r : Result (Option FormView) E) → IsTable given ks n
+found_product : {E : Type 0} (given n : ℕ) (ks : List Known) (f g : FormView) (r : Result (Option FormView) E) → IsTable given ks n
     → IfOk r (λ found. IfSome found (Follows ks f g)) → IfOk r (λ found. IfSome found (IsProduct (view_of given ks) f g))
 found_product given n ks f g (Ok (Some p)) table is = product_follows given n ks f g p table is
 found_product given n ks f g (Ok None) table is = tt
 found_product given n ks f g (Err e) table is = tt
+
+-- the same of the records as a slice has them
+pub found_in : {E : Type 0} (given n : ℕ) (ks slice : List Known) (f g : FormView) (r : Result (Option FormView) E) → IsTable given ks n → slice ≡ ks
+    → IfOk r (λ found. IfSome found (Follows slice f g)) → IfOk r (λ found. IfSome found (IsProduct (view_of given ks) f g))
+found_in given n ks slice f g r table same is =
+    found_product given n ks f g r table (subst (λ (known : List Known). IfOk r (λ found. IfSome found (Follows known f g))) same is)
 
 -- ---- forms
 

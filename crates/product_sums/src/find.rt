@@ -17,7 +17,8 @@ use revc_base::Memory;
 // The steps of a search.
 const SEARCH_STEPS: usize = 16_384;
 
-// The product, where a factor is a constant, or its mark is none or known.
+// The product, where a factor is a constant, or its mark is none or known: then it is a known one,
+// or derived from that alone.
 pub fn recalled(
     known: &[Known],
     first: &Form,
@@ -34,26 +35,26 @@ pub fn recalled(
         return Ok(Some(scaled(first, one)?));
     }
     budget.spend(first.len().saturating_add(second.len()))?;
-    by_mark(known, first, second, index, budget)
-}
-
-// The product, where its mark is none or known: a known one, or derived from that alone.
-fn by_mark(
-    known: &[Known],
-    first: &Form,
-    second: &Form,
-    index: &mut Index,
-    budget: &mut Budget,
-) -> Result<Option<Form>, ProductsFault>
-    ensures { IfOk result (λ found. IfSome found (Follows known.now first.now second.now)) }
-{
     let mark = Mark::of(first, second);
     if mark.is_none() {
         return derived(known, first, second, &[], budget);
     }
-    let Some(place) = index.recall(mark)? else {
-        return Ok(None);
-    };
+    match index.recall(mark)? {
+        Some(place) => at_place(known, place, first, second, budget),
+        None => Ok(None),
+    }
+}
+
+// The product, where it is the known one at a place, or derived from that alone.
+fn at_place(
+    known: &[Known],
+    place: usize,
+    first: &Form,
+    second: &Form,
+    budget: &mut Budget,
+) -> Result<Option<Form>, ProductsFault>
+    ensures { IfOk result (λ found. IfSome found (Follows known.now first.now second.now)) }
+{
     if let Some(value) = value_at(known, place, first, second)? {
         return Ok(Some(value));
     }
