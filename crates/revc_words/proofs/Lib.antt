@@ -3,6 +3,10 @@ pub mod WalkLemmas
 pub mod RowLemmas
 pub mod SaidLemmas
 pub mod ReadsLemmas
+pub mod CommandLemmas
+pub mod TakenLemmas
+pub mod TextLemmas
+pub mod GivenLemmas
 pub mod OrderLemmas
 pub mod LimitLemmas
 pub mod LoopLemmas

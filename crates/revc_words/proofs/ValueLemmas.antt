@@ -30,7 +30,8 @@ use Rattle.revc_words.specs.declared.order.Way.TheVariants.{Both, Diagrams, Sums
 use Rattle.revc_words.specs.declared.order.Write.{Write}
 use Rattle.revc_words.specs.declared.order.Write.TheVariants as writes
 use Rattle.revc_words.specs.Words.{IsNumberIn, MayPlace, plan_word, placing_word, way_word, format_word, kind_word, aim_word, write_word, is_option}
-use Rattle.revc_words.specs.inside.Parsing.{first_with, is_number_in, number_of, plan_of, placing_of, placing_for, way_of, format_of, kind_of, aim_of, write_of, value_or}
+use Rattle.revc_words.specs.inside.Parsing.{first_with, is_number_in, number_of, plan_of, placing_of, placing_for, way_of, format_of, kind_of, aim_of}
+use Rattle.revc_words.specs.inside.Parsing.{write_of, value_or}
 
 digits : IsNumeralModel (λ ds. all_ascii_digits ds ≡ true) (digits_value 10)
 digits = numerals_by_value _ tells_all_ascii_digits
@@ -119,7 +120,7 @@ is_number least most word None none = at (number_of least most word) refl
     at None e = sym e
     at (Some n) e = absurd (none n (number_says least most word n e))
 
--- ---- names
+-- ---- names: each line with a variable in place of a variant is checked for each of the others
 
 -- the first that has the word as its text has it
 pub first_says : {A : Type 0} (text : A → List ℕ) (all : List A) (word : List ℕ) (one : A) → first_with text all word ≡ Some one → word ≡ text one
@@ -133,11 +134,7 @@ first_says text (first ∷ others) word one e = at (bytes_eq word (text first)) 
 
 pub plan_named : (plan : Plan) → plan_of (plan_word plan) ≡ Some plan
 plan_named Auto = refl
-plan_named Compact = refl
-plan_named Eager = refl
-plan_named Lean = refl
-plan_named Pebble = refl
-plan_named Shallow = refl
+plan_named plan = refl
 
 pub format_named : (format : Format) → format_of (format_word format) ≡ Some format
 format_named Real = refl
@@ -150,25 +147,19 @@ placing_named InPlace = refl
 
 pub way_named : (way : Way) → way_of (way_word way) ≡ Some way
 way_named Diagrams = refl
-way_named Sums = refl
-way_named Both = refl
+way_named way = refl
 
 pub aim_named : (aim : Aim) → aim_of (aim_word aim) ≡ Some aim
 aim_named aims.Gates = refl
-aim_named aims.Depth = refl
-aim_named aims.Order = refl
+aim_named aim = refl
 
 pub write_named : (write : Write) → write_of (write_word write) ≡ Some write
 write_named writes.Program = refl
-write_named writes.Real = refl
-write_named writes.Qasm = refl
+write_named write = refl
 
 pub kind_named : (kind : Kind) → kind_of (kind_word kind) ≡ Some kind
 kind_named Add = refl
-kind_named Sub = refl
-kind_named Less = refl
-kind_named Inc = refl
-kind_named Mul = refl
+kind_named kind = refl
 
 -- a word that names a kind is its word
 pub kind_says : (word : List ℕ) (kind : Kind) → kind_of word ≡ Some kind → word ≡ kind_word kind
@@ -195,13 +186,21 @@ number_rule least most usual = record {
   no_option = number_is_no_option least most;
 }
 
+-- a value that is written by the word that names it
+abbrev named_rule : {A : Type 0} (value : List ℕ → Option A) (text : A → List ℕ) → A → ((word : List ℕ) (a : A) → value word ≡ Some a → word ≡ text a)
+    → ((a : A) → value (text a) ≡ Some a) → ((a : A) → is_option (text a) ≡ false) → Rule A
+named_rule value text usual says named no_option = record {
+  value = value;
+  Writes = λ word a. word ≡ text a;
+  usual = usual;
+  says = says;
+  found = λ word a is. ap value is ∙ named a;
+  no_option = λ word a is. ap is_option is ∙ no_option a;
+}
+
 pub plan_is_no_option : (plan : Plan) → is_option (plan_word plan) ≡ false
 plan_is_no_option Auto = refl
-plan_is_no_option Compact = refl
-plan_is_no_option Eager = refl
-plan_is_no_option Lean = refl
-plan_is_no_option Pebble = refl
-plan_is_no_option Shallow = refl
+plan_is_no_option plan = refl
 
 pub format_is_no_option : (format : Format) → is_option (format_word format) ≡ false
 format_is_no_option Real = refl
@@ -244,68 +243,31 @@ placing_rule command = record {
 
 pub way_is_no_option : (way : Way) → is_option (way_word way) ≡ false
 way_is_no_option Diagrams = refl
-way_is_no_option Sums = refl
-way_is_no_option Both = refl
+way_is_no_option way = refl
 
 abbrev pub way_rule : Rule Way
-way_rule = record {
-  value = way_of;
-  Writes = λ word way. word ≡ way_word way;
-  usual = Diagrams;
-  says = first_says way_word (Diagrams ∷ Sums ∷ Both ∷ []);
-  found = λ word way is. ap way_of is ∙ way_named way;
-  no_option = λ word way is. ap is_option is ∙ way_is_no_option way;
-}
+way_rule = named_rule way_of way_word Diagrams (first_says way_word (Diagrams ∷ Sums ∷ Both ∷ [])) way_named way_is_no_option
 
 pub aim_is_no_option : (aim : Aim) → is_option (aim_word aim) ≡ false
 aim_is_no_option aims.Gates = refl
-aim_is_no_option aims.Depth = refl
-aim_is_no_option aims.Order = refl
+aim_is_no_option aim = refl
 
 abbrev pub aim_rule : Rule Aim
-aim_rule = record {
-  value = aim_of;
-  Writes = λ word aim. word ≡ aim_word aim;
-  usual = aims.Gates;
-  says = first_says aim_word (aims.Gates ∷ aims.Depth ∷ aims.Order ∷ []);
-  found = λ word aim is. ap aim_of is ∙ aim_named aim;
-  no_option = λ word aim is. ap is_option is ∙ aim_is_no_option aim;
-}
+aim_rule = named_rule aim_of aim_word aims.Gates (first_says aim_word (aims.Gates ∷ aims.Depth ∷ aims.Order ∷ [])) aim_named aim_is_no_option
 
 pub write_is_no_option : (write : Write) → is_option (write_word write) ≡ false
 write_is_no_option writes.Program = refl
-write_is_no_option writes.Real = refl
-write_is_no_option writes.Qasm = refl
+write_is_no_option write = refl
 
 abbrev pub write_rule : Rule Write
-write_rule = record {
-  value = write_of;
-  Writes = λ word write. word ≡ write_word write;
-  usual = writes.Program;
-  says = first_says write_word (writes.Program ∷ writes.Real ∷ writes.Qasm ∷ []);
-  found = λ word write is. ap write_of is ∙ write_named write;
-  no_option = λ word write is. ap is_option is ∙ write_is_no_option write;
-}
+write_rule =
+    named_rule write_of write_word writes.Program (first_says write_word (writes.Program ∷ writes.Real ∷ writes.Qasm ∷ [])) write_named write_is_no_option
 
 abbrev pub format_rule : Format → Rule Format
-format_rule usual = record {
-  value = format_of;
-  Writes = λ word format. word ≡ format_word format;
-  usual = usual;
-  says = first_says format_word (Real ∷ Qasm ∷ []);
-  found = λ word format is. ap format_of is ∙ format_named format;
-  no_option = λ word format is. ap is_option is ∙ format_is_no_option format;
-}
+format_rule usual = named_rule format_of format_word usual (first_says format_word (Real ∷ Qasm ∷ [])) format_named format_is_no_option
 
 abbrev pub plan_rule : Rule Plan
-plan_rule = record {
-  value = plan_of;
-  Writes = λ word plan. word ≡ plan_word plan;
-  usual = Auto;
-  says = first_says plan_word (Auto ∷ Compact ∷ Eager ∷ Lean ∷ Pebble ∷ Shallow ∷ []);
-  found = λ word plan is. ap plan_of is ∙ plan_named plan;
-  no_option = λ word plan is. ap is_option is ∙ plan_is_no_option plan;
-}
+plan_rule = named_rule plan_of plan_word Auto (first_says plan_word (Auto ∷ Compact ∷ Eager ∷ Lean ∷ Pebble ∷ Shallow ∷ [])) plan_named plan_is_no_option
 
 abbrev pub lines_rule : Rule ℕ
 lines_rule = number_rule 1 MOST_LINES USUAL_LINES
