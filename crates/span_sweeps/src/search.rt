@@ -165,7 +165,7 @@ impl Search<'_> {
     fn try_most(&mut self, segments: &mut Vec<Vec<u32>>, most: usize) -> bool {
         let mut whole = Rule::whole(&mut self.work, self.graph.nodes.len());
         let outcome = self.sweep_twice(&mut whole, most, 0);
-        if self.is_beyond(outcome.measures.toffoli) {
+        if self.is_beyond(outcome.measures.toffoli) || self.is_too_wide(&whole.ranks) {
             return false;
         }
         if segments.is_empty() {
@@ -199,13 +199,17 @@ impl Search<'_> {
         }
     }
 
-    // A rule with all segments cleaned, and the first ones in blocks.
+    // A rule with all segments cleaned, and the first ones in blocks: of more and more segments, for
+    // more and more Toffoli gates.
     fn try_blocks(&mut self, rule: &mut Rule, most: usize, ranks: &[u32]) {
         let all = rule.starts.len();
         for shape in &SHAPES {
             let blocks = blocks_of(&mut self.work, &rule.starts, shape, ranks);
             if self.may_have(&blocks) {
-                self.try_sweep(rule, most, all, &blocks);
+                let outcome = self.try_sweep(rule, most, all, &blocks);
+                if self.is_beyond(outcome.measures.toffoli) {
+                    break;
+                }
             }
         }
     }
@@ -284,6 +288,14 @@ impl Search<'_> {
     // Whether the best plan has fewer Toffoli gates than these.
     fn is_beyond(&self, toffoli: u64) -> bool {
         self.best.size.toffoli < toffoli
+    }
+
+    // Whether more rows than there may be lines are wanted at a moment, at which any schedule of
+    // the same order wants as many.
+    fn is_too_wide(&self, ranks: &[u32]) -> bool {
+        let lines = self.ports.saturating_add(self.room);
+        let most = lines.saturating_add(MOST_OVER);
+        ranks.iter().any(|rank| *rank > most)
     }
 
     // A sweep, and a second one where the first one told more of nodes without products.
