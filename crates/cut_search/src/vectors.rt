@@ -8,10 +8,10 @@ const WORDS: usize = 8;
 /// The bits of a vector.
 pub const MOST_BITS: usize = 512;
 
-/// A vector: the mark of a sum, or a set of up to 512 functions.
+/// A vector: the mark of a sum, a set of up to 512 functions, or values in 512 columns.
 #[derive(Clone, Copy)]
 pub struct Vector {
-    words: [u64; 8],
+    pub words: [u64; 8],
 }
 
 impl Vector {
@@ -43,21 +43,6 @@ impl Vector {
         for i in 0..WORDS {
             step = step.wrapping_add(1);
             words[i] = mixed(step);
-        }
-        Vector { words }
-    }
-
-    /// Values of an input in 512 columns: random, mostly 0, mostly 1, and mostly one bit or another
-    /// of the input's number, by which the places of one register hold other bits than those of
-    /// the next.
-    pub fn column(input: u32) -> Vector {
-        let [one, two, few, r, s, t, u, v] = Vector::mark(input).words;
-        let rare = r & s & t & u & v;
-        let mut words = [one, two, few & r & s, few | s | u, rare, rare, rare, rare];
-        for i in 4..WORDS {
-            if (input >> (i - 1)) & 1 == 1 {
-                words[i] = !words[i].rotate_left(i as u32);
-            }
         }
         Vector { words }
     }

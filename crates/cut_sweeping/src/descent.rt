@@ -1,15 +1,15 @@
-// Wide cuts for a sum that may be 0.
+// Cuts for a sum that may be 0.
+use crate::columns::column;
 use cut_search::{
-    Basis, Lead, MOST_INSIDE, MOST_LEFT, Opening, Place, Reader, Scene, Walk, mark_of,
+    Basis, Lead, MOST_INSIDE, MOST_LEFT, Opening, Place, Reader, Scene, Vector, Walk, mark_of,
 };
 use linear_forms::Form;
-use plan_tools::Work;
+use plan_tools::{Work, number};
 use std::alloc::Global;
-use sum_cuts::{MOST_SUMS, MOST_WIDE, Step, Steps};
+use sum_cuts::{MOST_WIDE, Step, Steps};
 
-/// Up to so many sums a cut is soon tried again: where it has an eighth more products inside. A
-/// wider one is where it has half as many more.
-const NARROW: usize = 16;
+/// Fewer sums than these are no cut that is tried.
+pub const LEAST_SUMS: usize = 3;
 
 /// The most functions that are looked at for an order of the sums.
 const MOST_USES: usize = 1 << 20;
@@ -21,7 +21,8 @@ struct Size {
     inside: usize,
 }
 
-/// A walk down from a sum that may be 0. It stops at cuts that may tell it.
+/// A walk down from a sum that may be 0. It stops at cuts that may tell it, wide ones and narrow
+/// ones.
 #[derive(Drop)]
 pub struct Descent {
     walk: Walk,
@@ -46,8 +47,8 @@ impl Descent {
         }
     }
 
-    /// The next cut, if there is one.
-    pub fn next(&mut self, work: &mut Work, scene: Scene) -> Option<&Place> {
+    /// What is asked of the next cut, if there is one.
+    pub fn next(&mut self, work: &mut Work, scene: Scene, sum: &Form) -> Option<Asked> {
         for _ in 0..MOST_INSIDE {
             if self.is_over || work.is_stopped() {
                 return None;
@@ -56,7 +57,7 @@ impl Descent {
             if self.is_wanted(best) {
                 self.last = self.size();
                 self.is_over = best.is_none();
-                return Some(&self.walk.place);
+                return Asked::of(work, scene, &self.walk.place, sum);
             }
             self.open(work, scene, best?);
         }
@@ -76,18 +77,18 @@ impl Descent {
         }
     }
 
-    // Whether a cut is tried: a wide one where all is opened, or where the next opening widens it
-    // as the last one did not, if it is narrower than the last one, or more is inside.
+    // Whether a cut is tried: where all is opened, or where the next opening widens it as the last
+    // one did not, if it is narrower than the last one, or has more products inside: an eighth more
+    // where the next opening widens it by one.
     fn is_wanted(&self, best: Option<Opening>) -> bool {
         let (size, last) = (self.size(), self.last);
-        if size.width <= MOST_SUMS {
+        if size.width < LEAST_SUMS {
             return false;
         }
-        let part = if size.width <= NARROW { 8 } else { 2 };
         match best {
             Some(opening) if opening.rank > 1 && self.stayed => {
-                size.width < last.width
-                    || size.inside > last.inside.saturating_add(last.inside / part)
+                let more = if opening.rank > 2 { 0 } else { last.inside / 8 };
+                size.width < last.width || size.inside > last.inside.saturating_add(more)
             }
             Some(_) => false,
             None => true,
@@ -104,7 +105,7 @@ pub struct Asked {
 
 impl Asked {
     /// What is asked of the cut at a place. The first sums are those that are used first.
-    pub fn of(work: &mut Work, scene: Scene, place: &Place, sum: &Form) -> Option<Asked> {
+    fn of(work: &mut Work, scene: Scene, place: &Place, sum: &Form) -> Option<Asked> {
         let basis = Basis::of(work, scene, place, &[sum]);
         let mut reader = Reader::new(work, &basis);
         let given = forms_of(work, &basis.leads);
@@ -128,6 +129,19 @@ impl Asked {
         Some(Asked { sums, steps })
     }
 
+    /// Whether the sum is 1 in some columns of values of the cut's sums: then the cut does not tell
+    /// that it is 0.
+    pub fn is_refuted(&self, work: &mut Work) -> bool {
+        let mut values = columns(work, number(self.sums.len()));
+        for step in &self.steps.steps {
+            let first = values_at(work, &values, &step.first);
+            let second = values_at(work, &values, &step.second);
+            work.push(&mut values, first);
+            work.push(&mut values, first.times(&second));
+        }
+        values_at(work, &values, &self.steps.goal).lead().is_some()
+    }
+
     /// The sums of the cut.
     pub fn sums(&self, work: &mut Work) -> Vec<Form> {
         let mut sums = Vec::new(work.alloc);
@@ -136,6 +150,27 @@ impl Asked {
         }
         sums
     }
+}
+
+// The values of 1 and of the sums of a cut.
+fn columns(work: &mut Work, sums: u32) -> Vec<Vector> {
+    let mut values = work.copy(&[Vector::all(true)]);
+    for sum in 0..sums {
+        work.push(&mut values, column(sum, sums));
+    }
+    values
+}
+
+// The values of the sum of the functions at some places.
+fn values_at(work: &mut Work, values: &[Vector], places: &[usize]) -> Vector {
+    work.spend(places.len() as u64);
+    let mut sum = Vector::none();
+    for place in places {
+        if let Some(value) = values.get(*place) {
+            sum = sum.plus(value);
+        }
+    }
+    sum
 }
 
 fn forms_of(work: &mut Work, leads: &[Lead]) -> Vec<Form> {

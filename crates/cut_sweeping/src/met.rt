@@ -1,4 +1,5 @@
 // Sums that may be 0, by their values in some columns.
+use crate::columns::column;
 use crate::reach::Reach;
 use cut_search::{Atoms, Vector, atoms_of};
 use linear_forms::Form;
@@ -12,7 +13,7 @@ const MOST_FORMS: usize = 65_536;
 const MOST_WORDS: usize = 1 << 23;
 
 /// So many units may be lost on sums that are not known to be 0, and as many more as were won.
-const MOST_LOST: u64 = 1 << 25;
+const MOST_LOST: u64 = 1 << 27;
 
 /// The sums of the program by their values, and the sums that were proposed to be 0.
 #[derive(Drop)]
@@ -35,7 +36,7 @@ impl Met {
         let mut values = Vec::new(alloc);
         if reach.has_wide() {
             for atom in 0..given {
-                work.push(&mut values, Vector::column(atom));
+                work.push(&mut values, column(atom, given));
             }
         }
         Met {

@@ -15,7 +15,7 @@ impl Reach {
         match self {
             Reach::Products => 0,
             Reach::Cuts => 1 << 29,
-            Reach::WideCuts => 1 << 26,
+            Reach::WideCuts => 1 << 28,
         }
     }
 

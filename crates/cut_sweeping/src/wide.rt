@@ -1,4 +1,4 @@
-// Sums that wide cuts tell to be 0.
+// Sums that cuts tell to be 0, by diagrams.
 ghost use Rattle.std.specs.Prelude.{◌≡◌, IfOk, true};
 ghost use Rattle.sum_cuts.specs.Cuts.{IsZero};
 
@@ -12,10 +12,13 @@ use revc_base::Memory;
 use sum_cuts::{Judgement, judge};
 
 /// The nodes that diagrams over a cut may have: more where fewer do not do.
-const NODES: [u32; 3] = [1 << 12, 1 << 14, 1 << 17];
+const NODES: [u32; 4] = [1 << 12, 1 << 14, 1 << 17, 1 << 20];
 
 /// Of a diagram each node that it may have counts as so many units.
 const UNITS_FOR_NODE: u64 = 16;
+
+/// How many cuts are tried for a sum.
+const MOST_CUTS: usize = 64;
 
 /// How much is tried for a sum.
 #[derive(Clone, Copy)]
@@ -31,7 +34,7 @@ pub struct Effort {
 /// For a sum that is met on the way.
 pub const ON_THE_WAY: Effort = Effort {
     range: NEAR,
-    cuts: 8,
+    cuts: MOST_CUTS,
     nodes: 1 << 14,
 };
 
@@ -39,8 +42,8 @@ pub const ON_THE_WAY: Effort = Effort {
 pub fn at_the_end(reach: Reach) -> Effort {
     Effort {
         range: FAR,
-        cuts: if reach.has_wide() { 64 } else { 0 },
-        nodes: 1 << 17,
+        cuts: if reach.has_wide() { MOST_CUTS } else { 0 },
+        nodes: 1 << 20,
     }
 }
 
@@ -57,7 +60,7 @@ pub fn is_zero_widely(
     let scene = Scene { products, atoms };
     let mut descent = Descent::new(work, scene, sum);
     for _cut in 0..effort.cuts {
-        let Some(asked) = next(work, scene, &mut descent, sum) else {
+        let Some(asked) = descent.next(work, scene, sum) else {
             return Ok(false);
         };
         if is_zero_at(work, products, &asked, sum, effort.nodes)? {
@@ -65,12 +68,6 @@ pub fn is_zero_widely(
         }
     }
     Ok(false)
-}
-
-// What is asked of the next cut.
-fn next(work: &mut Work, scene: Scene, descent: &mut Descent, sum: &Form) -> Option<Asked> {
-    let place = descent.next(work, scene)?;
-    Asked::of(work, scene, place, sum)
 }
 
 fn is_zero_at(
@@ -82,6 +79,9 @@ fn is_zero_at(
 ) -> Result<bool, Memory>
     ensures { IfOk result (λ is. is ≡ true → IsZero products.now sum.now) }
 {
+    if asked.is_refuted(work) {
+        return Ok(false);
+    }
     for nodes in NODES {
         if nodes > most || work.is_stopped() {
             return Ok(false);
