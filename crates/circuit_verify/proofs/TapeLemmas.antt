@@ -18,7 +18,7 @@ use Rattle.circuit_verify.specs.declared.fault.NotComparable.{NotComparable}
 use Rattle.circuit_verify.specs.declared.fault.NotComparable.TheVariants.{Outputs, Lines, Gate}
 use Rattle.circuit_verify.specs.declared.fault.VerifyFault.{VerifyFault}
 use Rattle.circuit_verify.specs.declared.fault.VerifyFault.TheVariants as faults
-use Rattle.circuit_verify.specs.Comparisons.{Comparison, input_bits, order_in}
+use Rattle.circuit_verify.specs.Comparisons.{Comparison, beside, input_bits, order_in}
 use Rattle.circuit_verify.specs.LineFunctions.{Assumed, Holder, HasMore, IsHolder, IsMember, IsSameFunction, Line, LineFunction, Looked, LookedWanted}
 use Rattle.circuit_verify.specs.LineFunctions.{Step, Wanted, held_bit, value_on}
 use Rattle.circuit_verify.specs.Verdicts.{DiffersFirst, IsComparable, IsNotComparable, IsVerified, IsVerifyFault, SaidOfTapes}
@@ -48,22 +48,16 @@ module _ (params : List ℕ) (steps others : ℕ) (step other : ℕ → List Boo
     (assumed : AreStepsOf count total own another_step)
     (lines limit another : ℕ) (gates : List GateView) (placing : Placing) (borrow : ℕ) where
   abbrev one : Comparison
-  one = record {
-    program = record { params = params; steps = steps; step = step; outputs = outputs; value = value };
-    premise = record { params = has; steps = count; step = own; outputs = few; value = says };
-    circuit = record { lines = lines; limit = limit; gates = gates };
-    placing = placing;
-    borrow = borrow;
-  }
+  one =
+      beside (record { params = params; steps = steps; step = step; outputs = outputs; value = value })
+      (record { params = has; steps = count; step = own; outputs = few; value = says })
+      (record { lines = lines; limit = limit; gates = gates }) placing borrow
 
   abbrev two : Comparison
-  two = record {
-    program = record { params = params; steps = others; step = other; outputs = outputs; value = value };
-    premise = record { params = its; steps = total; step = another_step; outputs = many; value = says };
-    circuit = record { lines = lines; limit = another; gates = gates };
-    placing = placing;
-    borrow = borrow;
-  }
+  two =
+      beside (record { params = params; steps = others; step = other; outputs = outputs; value = value })
+      (record { params = its; steps = total; step = another_step; outputs = many; value = says })
+      (record { lines = lines; limit = another; gates = gates }) placing borrow
 
   -- ---- what holds a bit
 

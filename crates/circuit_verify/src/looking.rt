@@ -5,7 +5,8 @@ ghost use Rattle.claim_check.specs.Variables.{AreVariables};
 ghost use Rattle.circuit_verify.specs.Comparisons.{order_in, variables_in};
 ghost use Rattle.circuit_verify.specs.Verdicts.{IsVerifyFault};
 ghost use Rattle.circuit_verify.specs.Compared.{comparison};
-ghost use Rattle.circuit_verify.specs.inside.Numbers.{AreLineEnds, AreLookedEnds, AreNumbersOf};
+ghost use Rattle.circuit_verify.specs.inside.Numbers.{AreLineEnds, AreLookedEnds};
+ghost use Rattle.circuit_verify.specs.inside.Numbers.{AreVariableNumbers};
 ghost use Rattle.circuit_verify.specs.inside.Numbers.{AreRestricted, GrowsBy, HoldsLines};
 ghost use Rattle.circuit_verify.specs.inside.Numbers.{looked_function};
 
@@ -25,8 +26,7 @@ fn number_looked(
     bits: &[Dd],
 ) -> Result<Dd, VerifyFault>
     requires holds { HoldsLines (comparison compared.now) diagram.old }
-    requires bits { AreNumbersOf (comparison compared.now) diagram.old.nodes bits.now
-        (λ bits. bits) }
+    requires bits { AreVariableNumbers (comparison compared.now) diagram.old.nodes bits.now }
     ensures grows { GrowsBy (comparison compared.now) diagram.old diagram.new }
     ensures number { IfOk result (λ looked. StandsFor diagram.new.nodes looked
         (looked_function (comparison compared.now))) }

@@ -3,10 +3,10 @@
 ghost use Rattle.std.specs.Prelude.{◌≡◌, ◌<◌, length, IfErr, IfOk};
 ghost use Rattle.dependency_graph.specs.Graphs.{IsKnownBase, IsKnownNode, IsKnownSig};
 ghost use Rattle.decision_diagram.specs.Growth.{Computes, StandsFor};
-ghost use Rattle.claim_check.specs.Settled.{settled_outputs};
 ghost use Rattle.circuit_verify.specs.Comparisons.{input_bits};
 ghost use Rattle.circuit_verify.specs.Verdicts.{IsVerifyFault};
 ghost use Rattle.circuit_verify.specs.Compared.{comparison};
+ghost use Rattle.circuit_verify.specs.inside.Numbers.{AreVariableNumbers, AreOutputNumbers};
 ghost use Rattle.circuit_verify.specs.inside.Numbers.{AreKnown, AreNumbersOf, GrowsBy, HoldsLines};
 ghost use Rattle.circuit_verify.specs.inside.Numbers.{HoldsNodesOf, base_number, first_values};
 ghost use Rattle.circuit_verify.specs.inside.Numbers.{node_function_of, sig_function_of};
@@ -58,8 +58,7 @@ fn number_nodes(
 ) -> Result<Vec<Dd>, VerifyFault>
     requires holds { HoldsLines (comparison compared.now) diagram.old }
     requires graph { HoldsNodesOf (comparison compared.now) graph.now }
-    requires bits { AreNumbersOf (comparison compared.now) diagram.old.nodes bits.now
-        (λ bits. bits) }
+    requires bits { AreVariableNumbers (comparison compared.now) diagram.old.nodes bits.now }
     ensures grows { GrowsBy (comparison compared.now) diagram.old diagram.new }
     ensures numbers { IfOk result (λ nodes. AreNumbersOf (comparison compared.now)
         diagram.new.nodes nodes.items (λ bits. first_values graph.now (length graph.now.nodes)
@@ -99,14 +98,12 @@ fn number_made(
     nodes: &[Dd],
 ) -> Result<Vec<Dd>, Memory>
     requires graph { HoldsNodesOf (comparison compared.now) graph.now }
-    requires bits { AreNumbersOf (comparison compared.now) diagram.now.nodes bits.now
-        (λ bits. bits) }
+    requires bits { AreVariableNumbers (comparison compared.now) diagram.now.nodes bits.now }
     requires nodes { AreNumbersOf (comparison compared.now) diagram.now.nodes nodes.now
         (λ bits. first_values graph.now (length graph.now.nodes)
         (input_bits (comparison compared.now) bits)) }
-    ensures { IfOk result (λ outputs. AreNumbersOf (comparison compared.now) diagram.now.nodes
-        outputs.items
-        (λ bits. settled_outputs graph.now (input_bits (comparison compared.now) bits))) }
+    ensures { IfOk result (λ outputs. AreOutputNumbers (comparison compared.now) graph.now
+        diagram.now.nodes outputs.items) }
 {
     let _ = compared.variables(); // shows what is known of both
     let mut outputs = Vec::new(alloc);
@@ -126,12 +123,10 @@ pub fn number_outputs(
 ) -> Result<Vec<Dd>, VerifyFault>
     requires holds { HoldsLines (comparison compared.now) diagram.old }
     requires graph { HoldsNodesOf (comparison compared.now) graph.now }
-    requires bits { AreNumbersOf (comparison compared.now) diagram.old.nodes bits.now
-        (λ bits. bits) }
+    requires bits { AreVariableNumbers (comparison compared.now) diagram.old.nodes bits.now }
     ensures grows { GrowsBy (comparison compared.now) diagram.old diagram.new }
-    ensures numbers { IfOk result (λ outputs. AreNumbersOf (comparison compared.now)
-        diagram.new.nodes outputs.items
-        (λ bits. settled_outputs graph.now (input_bits (comparison compared.now) bits))) }
+    ensures numbers { IfOk result (λ outputs. AreOutputNumbers (comparison compared.now) graph.now
+        diagram.new.nodes outputs.items) }
     ensures refused { IfErr result (IsVerifyFault (comparison compared.now) diagram.new.limit) }
 {
     let _ = compared.variables(); // shows what is known of both

@@ -6,7 +6,9 @@ ghost use Rattle.circuit_verify.specs.Comparisons.{input_bits, output_bits, outp
 ghost use Rattle.circuit_verify.specs.Comparisons.{IsAdded, wanted_ports};
 ghost use Rattle.circuit_verify.specs.Verdicts.{IsVerifyFault};
 ghost use Rattle.circuit_verify.specs.Compared.{comparison};
-ghost use Rattle.circuit_verify.specs.inside.Numbers.{AreNumbersOf, GrowsBy, HoldsLines};
+ghost use Rattle.circuit_verify.specs.inside.Numbers.{AreHeldNumbers, AreNumbersOf};
+ghost use Rattle.circuit_verify.specs.inside.Numbers.{AreOutputNumbers, AreVariableNumbers};
+ghost use Rattle.circuit_verify.specs.inside.Numbers.{GrowsBy, HoldsLines};
 ghost use Rattle.circuit_verify.specs.inside.Numbers.{first_ports, held_numbers};
 
 use crate::VerifyFault;
@@ -72,9 +74,9 @@ fn number_held(
     compared: &Compared,
     bits: &[Dd],
 ) -> Result<Vec<Dd>, Memory>
-    requires { AreNumbersOf (comparison compared.now) diagram.now.nodes bits.now (λ bits. bits) }
-    ensures { IfOk result (λ held. AreNumbersOf (comparison compared.now) diagram.now.nodes
-        held.items (output_bits (comparison compared.now))) }
+    requires { AreVariableNumbers (comparison compared.now) diagram.now.nodes bits.now }
+    ensures { IfOk result (λ held. AreHeldNumbers (comparison compared.now) diagram.now.nodes
+        held.items) }
 {
     let _ = compared.variables(); // shows what is known of both
     let never = diagram.truth(false);
@@ -94,10 +96,9 @@ fn number_added(
 ) -> Result<Vec<Dd>, VerifyFault>
     requires placing { IsAdded compared.now.placing }
     requires holds { HoldsLines (comparison compared.now) diagram.old }
-    requires held { AreNumbersOf (comparison compared.now) diagram.old.nodes held.now
-        (output_bits (comparison compared.now)) }
-    requires outputs { AreNumbersOf (comparison compared.now) diagram.old.nodes outputs.now
-        (λ bits. settled_outputs compared.now.graph (input_bits (comparison compared.now) bits)) }
+    requires held { AreHeldNumbers (comparison compared.now) diagram.old.nodes held.now }
+    requires outputs { AreOutputNumbers (comparison compared.now) compared.now.graph
+        diagram.old.nodes outputs.now }
     ensures grows { GrowsBy (comparison compared.now) diagram.old diagram.new }
     ensures numbers { IfOk result (λ wanted. AreNumbersOf (comparison compared.now)
         diagram.new.nodes wanted.items (λ bits. added (output_bits (comparison compared.now) bits)
@@ -124,12 +125,10 @@ fn number_wanted(
     outputs: Vec<Dd>,
 ) -> Result<Vec<Dd>, VerifyFault>
     requires holds { HoldsLines (comparison compared.now) diagram.old }
-    requires bits { AreNumbersOf (comparison compared.now) diagram.old.nodes bits.now
-        (λ bits. bits) }
-    requires held { AreNumbersOf (comparison compared.now) diagram.old.nodes held.now
-        (output_bits (comparison compared.now)) }
-    requires outputs { AreNumbersOf (comparison compared.now) diagram.old.nodes outputs.items
-        (λ bits. settled_outputs compared.now.graph (input_bits (comparison compared.now) bits)) }
+    requires bits { AreVariableNumbers (comparison compared.now) diagram.old.nodes bits.now }
+    requires held { AreHeldNumbers (comparison compared.now) diagram.old.nodes held.now }
+    requires outputs { AreOutputNumbers (comparison compared.now) compared.now.graph
+        diagram.old.nodes outputs.items }
     ensures grows { GrowsBy (comparison compared.now) diagram.old diagram.new }
     ensures numbers { IfOk result (λ wanted. AreNumbersOf (comparison compared.now)
         diagram.new.nodes wanted.items (wanted_ports (comparison compared.now))) }
@@ -154,8 +153,7 @@ pub fn port_numbers(
     bits: &[Dd],
 ) -> Result<Ports, VerifyFault>
     requires holds { HoldsLines (comparison compared.now) diagram.old }
-    requires bits { AreNumbersOf (comparison compared.now) diagram.old.nodes bits.now
-        (λ bits. bits) }
+    requires bits { AreVariableNumbers (comparison compared.now) diagram.old.nodes bits.now }
     ensures grows { GrowsBy (comparison compared.now) diagram.old diagram.new }
     ensures first { IfOk result (λ ports. AreNumbersOf (comparison compared.now)
         diagram.new.nodes ports.first.items (first_ports (comparison compared.now))) }

@@ -5,7 +5,8 @@ ghost use Rattle.claim_check.specs.Variables.{AreVariables};
 ghost use Rattle.circuit_verify.specs.Comparisons.{order_in, variables_in};
 ghost use Rattle.circuit_verify.specs.Verdicts.{IsVerifyFault};
 ghost use Rattle.circuit_verify.specs.Compared.{comparison};
-ghost use Rattle.circuit_verify.specs.inside.Numbers.{AreNumbersOf, GrowsBy, HoldsLines};
+ghost use Rattle.circuit_verify.specs.inside.Numbers.{AreVariableNumbers};
+ghost use Rattle.circuit_verify.specs.inside.Numbers.{GrowsBy, HoldsLines};
 
 use crate::VerifyFault;
 use crate::compared::Compared;
@@ -39,8 +40,8 @@ pub fn number_bits(
         (order_in (comparison compared.now)) variables.now }
     requires holds { HoldsLines (comparison compared.now) diagram.old }
     ensures grows { GrowsBy (comparison compared.now) diagram.old diagram.new }
-    ensures numbers { IfOk result (λ numbers. AreNumbersOf (comparison compared.now)
-        diagram.new.nodes numbers.items (λ bits. bits)) }
+    ensures numbers { IfOk result (λ numbers. AreVariableNumbers (comparison compared.now)
+        diagram.new.nodes numbers.items) }
     ensures refused { IfErr result (IsVerifyFault (comparison compared.now) diagram.new.limit) }
 {
     let _ = compared.variables(); // shows what is known of both

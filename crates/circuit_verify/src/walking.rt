@@ -8,6 +8,7 @@ ghost use Rattle.mct_circuit.specs.Gates.{IsGateOn, IsNarrow, line_map};
 ghost use Rattle.circuit_verify.specs.Comparisons.{start_on};
 ghost use Rattle.circuit_verify.specs.Verdicts.{IsVerifyFault};
 ghost use Rattle.circuit_verify.specs.Compared.{comparison};
+ghost use Rattle.circuit_verify.specs.inside.Numbers.{AreVariableNumbers};
 ghost use Rattle.circuit_verify.specs.inside.Numbers.{AreEnds, AreKnown, AreLaid};
 ghost use Rattle.circuit_verify.specs.inside.Numbers.{AreNumbersOf, GrowsBy};
 ghost use Rattle.circuit_verify.specs.inside.Numbers.{HoldsLines, control_numbers};
@@ -36,7 +37,7 @@ fn laid(
     bits: &[Dd],
     ports: &[Dd],
 ) -> Result<Vec<Dd>, AllocError>
-    requires { AreNumbersOf (comparison compared.now) diagram.now.nodes bits.now (λ bits. bits) }
+    requires { AreVariableNumbers (comparison compared.now) diagram.now.nodes bits.now }
     ensures { IfOk result (λ lines. AreLaid (comparison compared.now) diagram.now.nodes
         ports.now lines.items) }
 {
@@ -125,8 +126,7 @@ pub fn ends_of(
     bits: &[Dd],
 ) -> Result<Ends, VerifyFault>
     requires holds { HoldsLines (comparison compared.now) diagram.old }
-    requires bits { AreNumbersOf (comparison compared.now) diagram.old.nodes bits.now
-        (λ bits. bits) }
+    requires bits { AreVariableNumbers (comparison compared.now) diagram.old.nodes bits.now }
     ensures grows { GrowsBy (comparison compared.now) diagram.old diagram.new }
     ensures ends { IfOk result (λ ends. AreEnds (comparison compared.now) diagram.new.nodes
         ends.now.items ends.want.items) }

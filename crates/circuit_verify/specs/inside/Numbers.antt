@@ -11,7 +11,7 @@ use Rattle.decision_diagram.specs.Diagrams.{DiagramView, IsCanonical, IsNumber, 
 use Rattle.decision_diagram.specs.Functions.{AreSame, Assignment, Function, IsLeast}
 use Rattle.decision_diagram.specs.Growth.{KeepsNodes}
 use Rattle.claim_check.specs.Measures.{node_function}
-use Rattle.claim_check.specs.Settled.{SettledView, IsSettled}
+use Rattle.claim_check.specs.Settled.{SettledView, IsSettled, settled_outputs}
 use Rattle.claim_check.specs.Variables.{bits_at, over}
 use Rattle.mct_circuit.specs.declared.gate.Control.{Control}
 use Rattle.mct_circuit.specs.Gates.{GateView, after_gate, line_map}
@@ -77,6 +77,19 @@ pub record AreNumbersOf (q : Comparison) (nodes : List Triple) (numbers : List �
     (value : List Bool → List Bool) : Type 0 where
   pub known : AreKnown nodes numbers
   pub same : (a : Assignment) → bits_under nodes numbers a ≡ value (bits_in q a)
+
+-- the numbers stand for the variables
+abbrev pub AreVariableNumbers : Comparison → List Triple → List ℕ → Type 0
+AreVariableNumbers q nodes numbers = AreNumbersOf q nodes numbers (λ bits. bits)
+
+-- the numbers stand for what the output lines hold before the gates
+abbrev pub AreHeldNumbers : Comparison → List Triple → List ℕ → Type 0
+AreHeldNumbers q nodes numbers = AreNumbersOf q nodes numbers (output_bits q)
+
+-- the numbers stand for the outputs of a settled graph
+abbrev pub AreOutputNumbers : Comparison → SettledView → List Triple → List ℕ → Type 0
+AreOutputNumbers q s nodes numbers =
+    AreNumbersOf q nodes numbers (λ bits. settled_outputs s (input_bits q bits))
 
 -- the values of the first nodes
 abbrev pub first_values : SettledView → ℕ → List Bool → List Bool
