@@ -9,12 +9,22 @@ sys.path.insert(0, str(Path(__file__).resolve().parent.parent / "examples"))
 
 import sboxes
 import sums
-from revc import Bits, Netlist, Unsettled, oracle
+from revc import Bits, Netlist, Unsettled, lib, oracle
+from speck32_64 import speck32_64
 from test_files import ran_by_gates
 
 SBOXES = [sboxes.by_circuit, sboxes.by_table, sboxes.by_choices, sboxes.by_monomials, sboxes.by_powers]
-UNSETTLED = ("by_powers", "by_monomials")  # the text and the circuit that no narrow cut tells
 MUTANTS = 60
+
+
+@oracle
+def long_in_a_row(a: Bits[128], b: Bits[128]):
+    return a + b
+
+
+@oracle
+def long_by_prefixes(a: Bits[128], b: Bits[128]):
+    return lib.add(a, b)
 
 
 @oracle
@@ -45,11 +55,10 @@ def mutant(netlist: Netlist, random: Random) -> Netlist:
 
 class Formulas(unittest.TestCase):
     def test_sboxes(self) -> None:
-        """Each formula's circuit beside each formula; what sums leave unsettled of one pair diagrams settle."""
+        """Each formula's circuit beside each formula."""
         for circuit in (each.compile() for each in SBOXES):
             for text in SBOXES:
-                by = "both" if (text.name, circuit.source.name) == UNSETTLED else "sums"
-                self.assertEqual(text.verify(circuit, by=by), "verified", (text.name, circuit.source.name))
+                self.assertEqual(text.verify(circuit, by="sums"), "verified", (text.name, circuit.source.name))
 
     def test_choices(self) -> None:
         for one, other in ((choosing, choosing_by_or), (choosing_by_or, choosing)):
@@ -62,6 +71,13 @@ class Formulas(unittest.TestCase):
         half = len(netlist.gates) // 2
         with self.assertRaises(Unsettled):
             sums.in_a_row.verify(replace(netlist, gates=netlist.gates[:half] + netlist.gates[half + 1:]), by="sums")
+
+    def test_long_sums_by_prefixes(self) -> None:
+        self.assertEqual(long_in_a_row.verify(long_by_prefixes.compile("pebble"), by="sums"), "verified")
+
+    def test_wide_flips(self) -> None:
+        """The eager plan cleans lines by flips of many controls, of which the program has no products."""
+        self.assertEqual(speck32_64.verify(speck32_64.compile("eager"), by="sums"), "verified")
 
     def test_mutants(self) -> None:
         random, differing = Random(12), 0
