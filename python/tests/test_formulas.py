@@ -14,6 +14,7 @@ from speck32_64 import speck32_64
 from test_files import ran_by_gates
 
 SBOXES = [sboxes.by_circuit, sboxes.by_table, sboxes.by_choices, sboxes.by_monomials, sboxes.by_powers]
+SLOW = ("by_powers", "by_monomials")  # the text and the circuit that wide cuts alone tell, slower than diagrams
 MUTANTS = 60
 
 
@@ -58,7 +59,8 @@ class Formulas(unittest.TestCase):
         """Each formula's circuit beside each formula."""
         for circuit in (each.compile() for each in SBOXES):
             for text in SBOXES:
-                self.assertEqual(text.verify(circuit, by="sums"), "verified", (text.name, circuit.source.name))
+                by = "both" if (text.name, circuit.source.name) == SLOW else "sums"
+                self.assertEqual(text.verify(circuit, by=by), "verified", (text.name, circuit.source.name))
 
     def test_choices(self) -> None:
         for one, other in ((choosing, choosing_by_or), (choosing_by_or, choosing)):
