@@ -1,4 +1,5 @@
 // How the graph that is swept comes from a graph of sums.
+use crate::arrangement::Arrangement;
 use crate::items::{Item, Items};
 use crate::order::Order;
 use crate::values::{Parts, Values};
@@ -12,22 +13,25 @@ use sum_graph::SumGraph;
 const MOST_WORK: u64 = 40_000_000;
 
 /// The graph that is swept for these sums, each of whose nodes has at most one product, and whose
-/// outputs have none. Its nodes stand as there, or, where they are `late`, each segment right
-/// before its first reader, and long sums have symbols too.
+/// outputs have none.
 ///
 /// # Errors
 ///
 /// `GaveUp` where the values of nodes take too much work, or the products are not as said; `Memory`
 /// where memory is refused. No clause says so.
-pub fn lower(alloc: Global, graph: &SumGraph, late: bool) -> Result<StateGraph, Stop> {
+pub fn lower(
+    alloc: Global,
+    graph: &SumGraph,
+    arrangement: Arrangement,
+) -> Result<StateGraph, Stop> {
     let mut work = Work::new(alloc, MOST_WORK);
     let mut items = Items::of(&mut work, graph);
     let mut order = Order::of(&mut work, &items);
-    if late {
+    if arrangement != Arrangement::Read {
         order = order.late(&mut work, &items);
-        let long = Values::long(&mut work, &items, &order);
+        let long = Values::long(&mut work, &items, &order, arrangement);
         items.mark_long(&long);
-        order = order.with_long(&mut work, &items);
+        order = order.with_long(&mut work, &items, arrangement);
     }
     let mut lowered = StateGraph {
         inputs: graph.inputs(),

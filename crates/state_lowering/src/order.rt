@@ -1,4 +1,5 @@
 // The order of nodes with products, and the segments in it.
+use crate::arrangement::Arrangement;
 use crate::items::Items;
 use plan_tools::{Table, Work, list_at, number};
 
@@ -67,10 +68,11 @@ impl Order {
         Order::cut(work, items, places)
     }
 
-    /// The same with the long sums. Each stands right before the next item with a product, but
-    /// behind all that it is made of, and before all that read it.
-    pub fn with_long(&self, work: &mut Work, items: &Items) -> Order {
-        let mut keys = self.keys(work, items);
+    /// The same with the long sums. Each stands right before the next item with a product, or,
+    /// among words, before its first reader where that is far behind; but behind all that it is
+    /// made of, and before all that read it.
+    pub fn with_long(&self, work: &mut Work, items: &Items, arrangement: Arrangement) -> Order {
+        let mut keys = self.keys(work, items, arrangement == Arrangement::Words);
         keys.sort_unstable();
         let mut order = Order {
             places: Vec::new(work.alloc),
@@ -87,10 +89,10 @@ impl Order {
         order
     }
 
-    // The keys of the items with symbols.
-    fn keys(&self, work: &mut Work, items: &Items) -> Vec<Key> {
+    // The keys of the items with symbols, where sums may stand far behind the next item, or not.
+    fn keys(&self, work: &mut Work, items: &Items, may_be_far: bool) -> Vec<Key> {
         let tops = self.tops(work, items);
-        let firsts = self.firsts(work, items);
+        let mut firsts = self.firsts(work, items);
         let mut keys = Vec::new(work.alloc);
         let mut next = UNPLACED;
         for place in (0..number(items.list.len())).rev() {
@@ -99,9 +101,13 @@ impl Order {
             if has_product {
                 next = spot;
             } else {
-                spot = spot.min(next).max(tops.get(place));
+                let early = spot.min(next).max(tops.get(place));
+                spot = self.spot_of_sum(early, spot, may_be_far);
             }
             if !items.is_sum(place) {
+                if may_be_far {
+                    items.put_before(list_at(&items.reads, place), spot, &mut firsts);
+                }
                 work.push(
                     &mut keys,
                     Key {
@@ -113,6 +119,26 @@ impl Order {
             }
         }
         keys
+    }
+
+    // Where a sum stands: early, or at its first reader where it may, and that is far behind.
+    fn spot_of_sum(&self, early: u32, reader: u32, may_be_far: bool) -> u32 {
+        let between = self
+            .starts_up_to(reader)
+            .saturating_sub(self.starts_up_to(early));
+        if may_be_far && reader != UNPLACED && between >= FAR as usize {
+            reader
+        } else {
+            early
+        }
+    }
+
+    // How many segments begin up to a spot.
+    fn starts_up_to(&self, spot: u32) -> usize {
+        match self.starts.binary_search(&spot) {
+            Ok(at) => at.saturating_add(1),
+            Err(at) => at,
+        }
     }
 
     // Of each item with a product where it stands, of a sum where the first one stands that reads

@@ -1,10 +1,14 @@
 // The values of items as vectors.
+use crate::arrangement::Arrangement;
 use crate::items::Items;
 use crate::order::{Order, push_at};
 use plan_tools::{Table, Work, list_at, number};
 
 /// How many symbols the vector of a sum without one of its own has at most.
 const MOST_SYMBOLS: usize = 44;
+
+/// The same of a sum of inputs where words have symbols.
+const MOST_INPUTS: usize = 3;
 
 /// The values of items as vectors, with what the nodes with products were made of.
 #[derive(Drop)]
@@ -14,6 +18,8 @@ pub struct Values<'i> {
     first: u32,
     /// Whether sums with long vectors get symbols, which are less than those of nodes.
     finds_long: bool,
+    /// How many symbols a sum of inputs without one of its own has at most.
+    most_inputs: usize,
     long: Vec<u32>,
     /// Of each item its vector.
     vectors: Vec<Vec<u32>>,
@@ -45,20 +51,26 @@ impl Parts {
 impl<'i> Values<'i> {
     /// The values of the items without products that are sums of inputs.
     pub fn of(work: &mut Work, items: &'i Items, order: &Order) -> Values<'i> {
-        Values::new(work, items, order, items.inputs, false)
+        Values::new(work, items, order, items.inputs, None)
     }
 
+    // Those from a symbol on; where sums get symbols, what says which.
     fn new(
         work: &mut Work,
         items: &'i Items,
         order: &Order,
         first: u32,
-        finds_long: bool,
+        finds: Option<Arrangement>,
     ) -> Values<'i> {
+        let finds_long = finds.is_some();
         let mut values = Values {
             items,
             first,
             finds_long,
+            most_inputs: match finds {
+                Some(Arrangement::Words) => MOST_INPUTS,
+                _ => MOST_SYMBOLS,
+            },
             long: Vec::new(work.alloc),
             vectors: work.lists(items.list.len()),
             holders: Vec::new(work.alloc),
@@ -70,9 +82,14 @@ impl<'i> Values<'i> {
     }
 
     /// The sums that have long vectors where they have no symbols of their own, though others do.
-    pub fn long(work: &mut Work, items: &'i Items, order: &Order) -> Vec<u32> {
+    pub fn long(
+        work: &mut Work,
+        items: &'i Items,
+        order: &Order,
+        arrangement: Arrangement,
+    ) -> Vec<u32> {
         let first = items.inputs.saturating_add(number(items.list.len()));
-        let mut values = Values::new(work, items, order, first, true);
+        let mut values = Values::new(work, items, order, first, Some(arrangement));
         for place in &order.places {
             let _ = values.push(work, *place);
             if work.is_stopped() {
@@ -160,7 +177,12 @@ impl<'i> Values<'i> {
             };
             if let Some(item) = items.item(place) {
                 let vector = self.sum(work, &item.bits);
-                if finds_long && vector.len() > MOST_SYMBOLS {
+                let most = if at == 0 {
+                    self.most_inputs
+                } else {
+                    MOST_SYMBOLS
+                };
+                if finds_long && vector.len() > most {
                     work.push(&mut self.long, place);
                     let symbol = items.inputs.saturating_add(place);
                     self.set(place, work.copy(&[symbol]));

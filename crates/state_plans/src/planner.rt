@@ -4,7 +4,7 @@ use crate::replaying::moves_of;
 use line_moves::Moves;
 use plan_tools::{Limits, Size, Stop, Work, number};
 use state_graphs::StateGraph;
-use state_lowering::lower;
+use state_lowering::{Arrangement, lower};
 use state_sweeps::{Sweep, Way, sweep_over};
 use std::alloc::Global;
 use sum_graph::SumGraph;
@@ -12,7 +12,13 @@ use sum_graph::SumGraph;
 /// The most units of work of all sweeps, and of one of them.
 const MOST_WORK: u64 = 300_000_000;
 
-const MOST_SWEPT: u64 = 80_000_000;
+const MOST_SWEPT: u64 = 150_000_000;
+
+/// How many of them a sweep may take for each node that lies behind: so many, and more where the
+/// words of a message schedule have symbols, which makes vectors long.
+const PER_NODE: u64 = 6000;
+
+const PER_NODE_OF_WORDS: u64 = 30_000;
 
 /// How many numbers of cleaned nodes are tried between none and all, and of how much work.
 const TURNS: usize = 6;
@@ -35,8 +41,10 @@ const MOST_ONCE_MORE: u64 = 10_000_000;
 ///
 /// Of the plans that were found within the lines it is the best by its `Size`. No node is cleaned
 /// beneath; if that does not fit, all are; if that does, numbers of cleaned nodes between are
-/// tried. That is done for two orders of the nodes; the second one not where the first took too
-/// much work, or had no node beneath.
+/// tried. That is done for two orders of the nodes; the second one not where the first had no node
+/// beneath, or took too much work. Where no plan was found for that, words have symbols in the
+/// second one; and where that gives none either, all nodes are made beneath, as outputs want that
+/// are narrower than what they are made of.
 ///
 /// # Errors
 ///
@@ -52,12 +60,20 @@ pub fn plan(alloc: Global, graph: &SumGraph, limits: Limits) -> Result<Moves, St
         ports,
         room,
         left: MOST_WORK,
+        per_node: PER_NODE,
         is_over: false,
+        gave_up: false,
         best: None,
     };
-    search.search(graph, false)?;
-    if !search.is_over {
-        search.search(graph, true)?;
+    search.search(graph, Arrangement::Read)?;
+    if !search.gave_up && !search.is_over {
+        search.search(graph, Arrangement::Late)?;
+    }
+    if search.gave_up && search.best.is_none() {
+        search.search_words(graph)?;
+    }
+    if search.best.is_none() {
+        search.search_beneath(graph)?;
     }
     match &search.best {
         Some(Candidate { graph, swept }) => moves_of(alloc, graph, &swept.sweep, &swept.lines),
@@ -73,11 +89,42 @@ struct Search {
     ports: u32,
     /// How many work lines there may be.
     room: u32,
-    /// The units of work that are left.
+    /// The units of work that are left, and how many a sweep may take for each node behind.
     left: u64,
+    per_node: u64,
     /// Whether no other order is to be tried.
     is_over: bool,
+    /// Whether this order takes too much work.
+    gave_up: bool,
     best: Option<Candidate>,
+}
+
+// How a graph is swept.
+#[derive(Clone, Copy)]
+struct Choice {
+    cleaned: u32,
+    is_beneath: bool,
+    margin: usize,
+}
+
+impl Choice {
+    // No node is cleaned.
+    const KEPT: Choice = Choice {
+        cleaned: 0,
+        is_beneath: false,
+        margin: MARGIN,
+    };
+
+    // All nodes are made beneath, and cleaned.
+    const BENEATH: Choice = Choice {
+        cleaned: u32::MAX,
+        is_beneath: true,
+        margin: MARGIN,
+    };
+
+    fn with_cleaned(self, cleaned: u32) -> Choice {
+        Choice { cleaned, ..self }
+    }
 }
 
 // A sweep, the lines of its rows, and how it was found.
@@ -85,7 +132,7 @@ struct Search {
 struct Swept {
     sweep: Sweep,
     lines: Lines,
-    cleaned: u32,
+    choice: Choice,
     work: u64,
 }
 
@@ -105,19 +152,60 @@ impl Swept {
 
 impl Search {
     // Tries an order of the nodes.
-    fn search(&mut self, graph: &SumGraph, late: bool) -> Result<(), Stop> {
-        let lowered = match lower(self.alloc, graph, late) {
-            Err(Stop::GaveUp) => return Ok(()),
-            lowered => lowered?,
-        };
+    fn search(&mut self, graph: &SumGraph, arrangement: Arrangement) -> Result<(), Stop> {
+        match self.lowered(graph, arrangement)? {
+            Some(lowered) => self.search_in(lowered),
+            None => Ok(()),
+        }
+    }
+
+    // The graph that is swept; none where that takes too much work.
+    fn lowered(
+        &self,
+        graph: &SumGraph,
+        arrangement: Arrangement,
+    ) -> Result<Option<StateGraph>, Stop> {
+        match lower(self.alloc, graph, arrangement) {
+            Ok(lowered) => Ok(Some(lowered)),
+            Err(Stop::GaveUp) => Ok(None),
+            Err(stop) => Err(stop),
+        }
+    }
+
+    fn search_in(&mut self, lowered: StateGraph) -> Result<(), Stop> {
         if let Some(swept) = self.best_sweep(&lowered)? {
             let swept = self.once_more(&lowered, swept)?;
-            self.best = Some(Candidate {
-                graph: lowered,
-                swept,
-            });
+            self.keep(lowered, swept);
         }
         Ok(())
+    }
+
+    // Tries the order in which words have symbols, where there are words.
+    fn search_words(&mut self, graph: &SumGraph) -> Result<(), Stop> {
+        match self.lowered(graph, Arrangement::Words)? {
+            Some(lowered) if has_words(&lowered) => {
+                self.gave_up = false;
+                self.per_node = PER_NODE_OF_WORDS;
+                self.search_in(lowered)
+            }
+            _ => Ok(()),
+        }
+    }
+
+    // Tries all nodes beneath, in the order in which they are read.
+    fn search_beneath(&mut self, graph: &SumGraph) -> Result<(), Stop> {
+        let Some(lowered) = self.lowered(graph, Arrangement::Read)? else {
+            return Ok(());
+        };
+        self.per_node = PER_NODE;
+        if let Some(swept) = self.swept(&lowered, Choice::BENEATH)? {
+            self.keep(lowered, swept);
+        }
+        Ok(())
+    }
+
+    fn keep(&mut self, graph: StateGraph, swept: Swept) {
+        self.best = Some(Candidate { graph, swept });
     }
 
     // Whether a sweep is better than the best so far.
@@ -131,7 +219,7 @@ impl Search {
     // The best sweep of a graph that fits, if it is better than that of the other one. If that has
     // no node cleaned, none is cleaned here.
     fn best_sweep(&mut self, graph: &StateGraph) -> Result<Option<Swept>, Stop> {
-        if let Some(kept) = self.swept(graph, 0, MARGIN)? {
+        if let Some(kept) = self.swept(graph, Choice::KEPT)? {
             self.is_over |= !kept.sweep.has_beneath;
             return Ok(if self.is_better(&kept) {
                 Some(kept)
@@ -139,10 +227,10 @@ impl Search {
                 None
             });
         }
-        if self.is_over || self.is_kept() {
+        if self.gave_up || self.is_kept() {
             return Ok(None);
         }
-        match self.swept(graph, u32::MAX, MARGIN)? {
+        match self.swept(graph, Choice::KEPT.with_cleaned(u32::MAX))? {
             Some(clean) if self.is_better(&clean) => Ok(Some(self.between(graph, clean)?)),
             _ => Ok(None),
         }
@@ -168,7 +256,7 @@ impl Search {
                 break;
             }
             let cleaned = bracket.next(slack);
-            match self.swept(graph, cleaned, MARGIN)? {
+            match self.swept(graph, best.choice.with_cleaned(cleaned))? {
                 Some(found) => {
                     bracket.fit(cleaned, found.lines.work);
                     if found.size(self.ports) < best.size(self.ports) {
@@ -186,42 +274,43 @@ impl Search {
         if swept.work > MOST_ONCE_MORE {
             return Ok(swept);
         }
-        let is_over = self.is_over;
-        let found = self.swept(graph, swept.cleaned, 0)?;
-        self.is_over = is_over;
+        let gave_up = self.gave_up;
+        let choice = Choice {
+            margin: 0,
+            ..swept.choice
+        };
+        let found = self.swept(graph, choice)?;
+        self.gave_up = gave_up;
         match found {
             Some(found) if found.size(self.ports) < swept.size(self.ports) => Ok(found),
             _ => Ok(swept),
         }
     }
 
-    // How a sweep goes with so many nodes cleaned.
-    fn way(&self, cleaned: u32, margin: usize) -> Way {
+    // How a sweep goes.
+    fn way(&self, choice: Choice) -> Way {
         let toffoli = match &self.best {
             Some(best) => best.swept.sweep.toffoli,
             None => u64::MAX,
         };
         Way {
-            cleaned,
-            margin,
+            cleaned: choice.cleaned,
+            is_beneath: choice.is_beneath,
+            per_node: self.per_node,
+            margin: choice.margin,
             rows: self.ports.saturating_add(self.room),
             toffoli,
         }
     }
 
-    // A sweep with so many nodes cleaned, if its work is not too much, and it fits.
-    fn swept(
-        &mut self,
-        graph: &StateGraph,
-        cleaned: u32,
-        margin: usize,
-    ) -> Result<Option<Swept>, Stop> {
+    // A sweep, if its work is not too much, and it fits.
+    fn swept(&mut self, graph: &StateGraph, choice: Choice) -> Result<Option<Swept>, Stop> {
         let mut work = Work::new(self.alloc, self.left.min(MOST_SWEPT));
-        let found = sweep_over(&mut work, graph, self.way(cleaned, margin));
+        let found = sweep_over(&mut work, graph, self.way(choice));
         self.left = self.left.saturating_sub(work.spent());
         let sweep = match found {
             Err(Stop::GaveUp) => {
-                self.is_over |= cleaned > 0 || graph.starts.len() < 2;
+                self.gave_up |= choice.cleaned > 0 || graph.starts.len() < 2;
                 return Ok(None);
             }
             found => found?,
@@ -236,7 +325,7 @@ impl Search {
         Ok(Some(Swept {
             sweep,
             lines,
-            cleaned,
+            choice,
             work: work.spent(),
         }))
     }
@@ -246,6 +335,16 @@ impl Search {
         let lines = Lines::of(&mut work, graph, sweep);
         work.finish(lines)
     }
+}
+
+// Whether a graph has symbols for sums of inputs.
+fn has_words(graph: &StateGraph) -> bool {
+    for node in &graph.nodes {
+        if node.is_sum() && node.below.is_empty() {
+            return true;
+        }
+    }
+    false
 }
 
 // Numbers of cleaned nodes, between which the one is that is sought.

@@ -9,16 +9,19 @@ use std::mem;
 /// The most steps of a sweep. Each is a gate and more.
 const MOST_STEPS: usize = 4_000_000;
 
-/// The most units of work of a sweep: so many at first, and for each node that lies behind.
+/// The most units of work of a sweep at first.
 const AT_FIRST: u64 = 6_000_000;
-
-const PER_NODE: u64 = 6000;
 
 /// How a sweep goes, and what it may take at most: it is given up where it takes more.
 #[derive(Clone, Copy)]
 pub struct Way {
     /// In segments that begin before this place, nodes go off beneath behind them.
     pub cleaned: u32,
+    /// Whether all nodes are made beneath: the state has sums of inputs alone, to which the outputs
+    /// are copied.
+    pub is_beneath: bool,
+    /// The units of work that it may take for each node that lies behind, beside six millions.
+    pub per_node: u64,
     /// By more than how many symbols a vector is to be shorter than a row to take its head.
     pub margin: usize,
     /// The rows at a moment, each of which has a line.
@@ -61,8 +64,8 @@ pub struct Sweep {
 }
 
 /// Goes over all nodes from the end, a segment at a time. Each symbol that is added is a unit of
-/// work, and each node that is looked through for what is needed; they may be six millions, and
-/// 6,000 for each node that lies behind. None where it takes more than it may.
+/// work, and each node that is looked through for what is needed. None where it takes more than it
+/// may.
 ///
 /// # Errors
 ///
@@ -79,6 +82,9 @@ impl Sweeper<'_> {
     fn sweep(&mut self, way: Way) -> Option<Sweep> {
         let ends = self.begin_outputs();
         self.copy_outputs(&ends);
+        if way.is_beneath {
+            self.want_outputs_beneath();
+        }
         if !self.go_back(way) {
             return None;
         }
@@ -127,6 +133,25 @@ impl Sweeper<'_> {
         }
     }
 
+    // Wants all that outputs have beside inputs beneath.
+    fn want_outputs_beneath(&mut self) {
+        let graph = self.graph;
+        for output in &graph.outputs {
+            let nodes = self.without_inputs(&output.vector);
+            self.want_beneath(&nodes);
+        }
+    }
+
+    fn without_inputs(&mut self, vector: &[u32]) -> Vec<u32> {
+        let mut nodes = Vec::new(self.work.alloc);
+        for symbol in vector {
+            if self.graph.place(*symbol).is_some() {
+                self.work.push(&mut nodes, *symbol);
+            }
+        }
+        nodes
+    }
+
     // Back over all segments; whether that takes no more than it may.
     fn go_back(&mut self, way: Way) -> bool {
         let graph = self.graph;
@@ -140,7 +165,7 @@ impl Sweeper<'_> {
                 cleaned: way.cleaned,
                 score,
             };
-            let Some(segment) = self.back_over_within(cuts) else {
+            let Some(segment) = self.back_over_within(cuts, way.per_node) else {
                 break;
             };
             score = segment.score;
@@ -158,9 +183,9 @@ impl Sweeper<'_> {
     }
 
     // Back over a segment, of as much work as the nodes behind it allow.
-    fn back_over_within(&mut self, cuts: Cuts<'_>) -> Option<Segment> {
+    fn back_over_within(&mut self, cuts: Cuts<'_>, per_node: u64) -> Option<Segment> {
         let passed = self.nodes().saturating_sub(cuts.end) as u64;
-        let most = passed.saturating_mul(PER_NODE).saturating_add(AT_FIRST);
+        let most = passed.saturating_mul(per_node).saturating_add(AT_FIRST);
         let part = self.work.part(most.saturating_sub(self.work.spent()));
         let whole = mem::replace(&mut self.work, part);
         let segment = self.back_over_segment(cuts);
