@@ -7,7 +7,9 @@ from pathlib import Path
 sys.path.insert(0, str(Path(__file__).resolve().parent.parent / "examples"))
 
 from aes128_key import aes128_key
+from blake2s import START as BLAKE2S_START, blake2s
 from md5 import START, md5
+from sha1 import START as SHA1_START, sha1
 from whole import FOLDER, WHOLE, joined, words
 from xtea import xtea
 
@@ -30,6 +32,12 @@ class Wholes(unittest.TestCase):
         block = b"abc\x80" + bytes(52) + (24).to_bytes(8, "little")
         found = md5(state=joined(START, 32), block=int.from_bytes(block, "little"))
         self.assertEqual(found, words(hashlib.md5(b"abc").digest(), 4, "little"))
+        block = b"abc\x80" + bytes(52) + (24).to_bytes(8, "big")
+        found = sha1(state=joined(SHA1_START, 32), block=joined(words(block), 32))
+        self.assertEqual(found, words(hashlib.sha1(b"abc").digest()))
+        start = [BLAKE2S_START[0] ^ 0x01010020] + BLAKE2S_START[1:]
+        found = blake2s(h=joined(start, 32), m=int.from_bytes(b"abc", "little"), t=3, f=(1 << 32) - 1)
+        self.assertEqual(found, words(hashlib.blake2s(b"abc").digest(), 4, "little"))
         key, text = words(bytes(range(16))), words(b"ABCDEFGH")
         self.assertEqual(xtea(text=joined(text, 32), key=joined(key, 32)), [0x497df3d0, 0x72612cb5])
 
