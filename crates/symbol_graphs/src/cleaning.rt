@@ -1,6 +1,7 @@
-// Nodes that are short sums, or are used once in a sum, go into their users; equal nodes and equal
-// products become one.
+// Nodes that are short sums, or are used once in a sum, go into their users; equal nodes, equal
+// products and nodes that are always added to each other become one.
 use crate::graph::Graph;
+use crate::joining::join_nodes;
 use crate::steps::{Opened, Step};
 use crate::sums::{Affine, SymbolProduct, SymbolSum, mixed};
 use plan_tools::{Table, Work};
@@ -19,7 +20,10 @@ const MOST_MOVED: usize = 64;
 pub fn clean(graph: &mut Graph, work: &mut Work) {
     for _ in 0..MOST_TIMES {
         let done = graph.done();
-        let order = order_of(graph, work);
+        let mut order = order_of(graph, work);
+        if join_nodes(graph, work, &order) {
+            order = order_of(graph, work);
+        }
         let mut cleaning = Cleaning::new(graph, work, &order);
         cleaning.clean_nodes(graph, work, &order);
         let order = order_of(graph, work);
@@ -30,6 +34,18 @@ pub fn clean(graph: &mut Graph, work: &mut Work) {
     }
     let order = order_of(graph, work);
     graph.index(work, &order);
+}
+
+/// Takes nodes that are 0 out of their users, and changes nothing else.
+pub fn drop_zeros(graph: &mut Graph, work: &mut Work) {
+    let order = order_of(graph, work);
+    let mut cleaning = Cleaning::new(graph, work, &order);
+    for node in &order {
+        cleaning.move_bits(graph, work, *node);
+        cleaning.move_factors(graph, work, *node);
+        let is_zero = graph.sum(*node).is_some_and(|sum| sum.is_zero());
+        cleaning.is_moved.set(*node, is_zero);
+    }
 }
 
 // ---- order
@@ -257,8 +273,8 @@ impl Cleaning {
     }
 }
 
-// Adds what makes a node 0 to another one.
-fn define(graph: &mut Graph, work: &mut Work, target: u32, node: u32) {
+/// Adds what makes a node 0 to another one.
+pub fn define(graph: &mut Graph, work: &mut Work, target: u32, node: u32) {
     if target == node {
         return;
     }

@@ -4,10 +4,11 @@
 
 mod cleaning;
 mod graph;
+mod joining;
 mod steps;
 mod sums;
 
-pub use cleaning::{clean, order_of};
+pub use cleaning::{clean, define, drop_zeros, order_of};
 pub use graph::{GONE, Graph};
 pub use steps::{Opened, Proposal, Step, Sums};
 pub use sums::{Affine, SymbolProduct, SymbolSum};

@@ -50,7 +50,8 @@ impl Opened {
         }
     }
 
-    fn copy(&self, work: &mut Work) -> Opened {
+    /// The same nodes and sums.
+    pub fn copy(&self, work: &mut Work) -> Opened {
         let mut sums = Vec::new(work.alloc);
         for sum in &self.sums {
             let sum = work.copy(sum);
