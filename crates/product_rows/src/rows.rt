@@ -22,12 +22,33 @@ impl Rows {
             let values = rows.of_input(work, input);
             put(&mut rows.values, input, values);
         }
+        rows.fill(graph, work, order);
+        rows
+    }
+
+    // The values of nodes.
+    fn fill(&mut self, graph: &Graph, work: &mut Work, order: &[u32]) {
         for node in order {
             if let Some(sum) = graph.sum(*node) {
-                let values = rows.of_sum(work, sum);
-                put(&mut rows.values, graph.symbol(*node), values);
+                let values = self.of_sum(work, sum);
+                put(&mut self.values, graph.symbol(*node), values);
             }
         }
+    }
+
+    /// Those of a graph of any number of inputs in so many words of rows that look like chance.
+    pub fn sampled(graph: &Graph, work: &mut Work, order: &[u32], words: usize) -> Rows {
+        let symbols = graph.symbol(graph.nodes()) as usize;
+        let mut rows = Rows {
+            words,
+            values: work.lists(symbols),
+        };
+        let mut mark: u64 = 0x9e37_79b9_7f4a_7c15;
+        for input in 0..graph.inputs {
+            let values = words_behind(work, &mut mark, words);
+            put(&mut rows.values, input, values);
+        }
+        rows.fill(graph, work, order);
         rows
     }
 
@@ -77,6 +98,18 @@ impl Rows {
 /// How many words the rows of so many inputs are.
 pub fn words_of(inputs: u32) -> usize {
     1 << inputs.saturating_sub(6).min(32)
+}
+
+// The words behind one in a sequence that looks like chance.
+fn words_behind(work: &mut Work, mark: &mut u64, count: usize) -> Vec<u64> {
+    let mut words = Vec::new(work.alloc);
+    for _ in 0..count {
+        *mark ^= *mark << 13;
+        *mark ^= *mark >> 7;
+        *mark ^= *mark << 17;
+        work.push(&mut words, *mark);
+    }
+    words
 }
 
 fn ones(bit: bool) -> u64 {

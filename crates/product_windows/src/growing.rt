@@ -52,8 +52,13 @@ struct Cost {
     products_less: usize,
 }
 
-// The best window with one more node.
-fn best_grown(graph: &Graph, work: &mut Work, target: &Target, window: &Window) -> Option<Window> {
+/// The best window with one more node.
+pub fn best_grown(
+    graph: &Graph,
+    work: &mut Work,
+    target: &Target,
+    window: &Window,
+) -> Option<Window> {
     let mut least: Option<Cost> = None;
     let mut best = None;
     for symbol in &candidates(graph, work, window) {

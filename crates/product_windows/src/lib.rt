@@ -2,6 +2,9 @@
 //! answers steps; of none of them anything is promised.
 #![tactic(auto)]
 
+mod claims;
+mod conjunctions;
+mod disjoint;
 mod grouping;
 mod growing;
 mod naming;
@@ -9,6 +12,7 @@ mod passes;
 mod rewriting;
 mod search;
 mod simpler;
+mod vain;
 mod wide;
 mod windows;
 

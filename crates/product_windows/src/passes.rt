@@ -1,6 +1,7 @@
 // Passes over all nodes, until none gains.
 use crate::growing::grown;
 use crate::rewriting::{Gain, rewrite};
+use crate::vain::Vain;
 use crate::wide::vanish;
 use crate::windows::{Target, Width, Window};
 use plan_tools::Work;
@@ -75,7 +76,7 @@ struct Search {
 
 /// Passes in one order until none gains, with simpler products and then in wide windows where
 /// nothing else is found.
-pub fn settle(graph: &mut Graph, work: &mut Work, order: Order, most_units: u64) {
+pub fn settle(graph: &mut Graph, work: &mut Work, vain: &mut Vain, order: Order, most_units: u64) {
     let mut search = Search {
         order,
         most_units,
@@ -85,7 +86,7 @@ pub fn settle(graph: &mut Graph, work: &mut Work, order: Order, most_units: u64)
     let mut had_simpler = false;
     let mut before = graph.count();
     for number in 0..MOST_PASSES {
-        let simpler = pass(graph, work, search);
+        let simpler = pass(graph, work, vain, search);
         clean(graph, work);
         let now = graph.count();
         let gains = before.saturating_sub(now).saturating_mul(LEAST_GAIN) > now;
@@ -111,7 +112,7 @@ pub fn settle(graph: &mut Graph, work: &mut Work, order: Order, most_units: u64)
 }
 
 // One pass; how many products became simpler.
-fn pass(graph: &mut Graph, work: &mut Work, search: Search) -> usize {
+fn pass(graph: &mut Graph, work: &mut Work, vain: &mut Vain, search: Search) -> usize {
     let mut simpler: usize = 0;
     let mut seen: usize = 0;
     let mut gained: usize = 0;
@@ -121,7 +122,7 @@ fn pass(graph: &mut Graph, work: &mut Work, search: Search) -> usize {
             break;
         }
         seen = seen.saturating_add(graph.products(*node).len());
-        let gain = rewrite_node(graph, work, *node, search.aim);
+        let gain = rewrite_node(graph, work, vain, *node, search.aim);
         gained = gained.saturating_add(gain.products);
         simpler = simpler.saturating_add(usize::from(gain.is_simpler));
     }
@@ -152,7 +153,7 @@ pub fn nodes_in_order(graph: &Graph, work: &mut Work, order: Order) -> Vec<u32> 
 
 // Rewrites the products of a node: each is a seed beside which others are taken, and is tried alone
 // where that gains nothing.
-fn rewrite_node(graph: &mut Graph, work: &mut Work, node: u32, aim: Aim) -> Gain {
+fn rewrite_node(graph: &mut Graph, work: &mut Work, vain: &mut Vain, node: u32, aim: Aim) -> Gain {
     let mut all = Gain::NONE;
     all.products = by_rank(graph, work, node);
     let mut seed = 0;
@@ -160,7 +161,7 @@ fn rewrite_node(graph: &mut Graph, work: &mut Work, node: u32, aim: Aim) -> Gain
         if seed >= graph.products(node).len().min(MOST_SEEDS) || graph.node_place(node) == GONE {
             break;
         }
-        let gain = rewrite_seed(graph, work, node, seed, aim);
+        let gain = rewrite_seed(graph, work, vain, node, seed, aim);
         all.products = all.products.saturating_add(gain.products);
         all.is_simpler = all.is_simpler || gain.is_simpler;
         if gain.products == 0 {
@@ -170,9 +171,16 @@ fn rewrite_node(graph: &mut Graph, work: &mut Work, node: u32, aim: Aim) -> Gain
     all
 }
 
-fn rewrite_seed(graph: &mut Graph, work: &mut Work, node: u32, seed: usize, aim: Aim) -> Gain {
+fn rewrite_seed(
+    graph: &mut Graph,
+    work: &mut Work,
+    vain: &mut Vain,
+    node: u32,
+    seed: usize,
+    aim: Aim,
+) -> Gain {
     let target = target_of(graph, work, node, seed, aim.width());
-    let gain = rewrite_target(graph, work, &target, aim);
+    let gain = rewrite_target(graph, work, vain, &target, aim);
     if gain.products > 0 || target.own.len() < 2 {
         return gain;
     }
@@ -180,13 +188,19 @@ fn rewrite_seed(graph: &mut Graph, work: &mut Work, node: u32, seed: usize, aim:
         node,
         own: work.copy(&[seed]),
     };
-    rewrite_target(graph, work, &alone, aim)
+    rewrite_target(graph, work, vain, &alone, aim)
 }
 
-fn rewrite_target(graph: &mut Graph, work: &mut Work, target: &Target, aim: Aim) -> Gain {
+fn rewrite_target(
+    graph: &mut Graph,
+    work: &mut Work,
+    vain: &mut Vain,
+    target: &Target,
+    aim: Aim,
+) -> Gain {
     match grown(graph, work, target, aim.width()) {
         Some(window) if aim == Aim::Wide => vanish(graph, work, target, window),
-        Some(window) => rewrite(graph, work, target, window, aim == Aim::Simpler),
+        Some(window) => rewrite(graph, work, vain, target, window, aim == Aim::Simpler),
         None => Gain::NONE,
     }
 }

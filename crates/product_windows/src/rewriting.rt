@@ -1,6 +1,7 @@
 // A target rewritten with fewer products, or with a product of fewer symbols.
 use crate::naming::Names;
 use crate::simpler::simpler;
+use crate::vain::{Vain, mark_of};
 use crate::windows::{Target, Window, has_symbol};
 use plan_tools::Work;
 use symbol_graphs::{Affine, Graph, Opened, Step, SymbolProduct, SymbolSum};
@@ -28,12 +29,13 @@ impl Gain {
 pub fn rewrite(
     graph: &mut Graph,
     work: &mut Work,
+    vain: &mut Vain,
     target: &Target,
     window: Window,
     may_simplify: bool,
 ) -> Gain {
     let rewriting = Rewriting::of(graph, work, target, window);
-    let Some((program, is_simpler)) = rewriting.program(work, may_simplify) else {
+    let Some((program, is_simpler)) = rewriting.program(work, vain, may_simplify) else {
         return Gain::NONE;
     };
     let products = rewriting.cost.saturating_sub(program.products.len());
@@ -80,7 +82,12 @@ impl Rewriting {
     }
 
     // A program for the goal, and whether it has as many products as before.
-    fn program(&self, work: &mut Work, may_simplify: bool) -> Option<(Program, bool)> {
+    fn program(
+        &self,
+        work: &mut Work,
+        vain: &mut Vain,
+        may_simplify: bool,
+    ) -> Option<(Program, bool)> {
         if self.cost == 0 {
             return None;
         }
@@ -96,7 +103,7 @@ impl Rewriting {
             return Some((found, false));
         }
         if most >= 2
-            && let Some(found) = self.of_several(work, most, may_simplify)
+            && let Some(found) = self.of_several(work, vain, most, may_simplify)
         {
             return Some((found, false));
         }
@@ -106,9 +113,28 @@ impl Rewriting {
         Some((simpler(work, &self.names, self.goal, self.size?)?, true))
     }
 
+    // The same as `of_many`, unless that was in vain before.
+    fn of_several(
+        &self,
+        work: &mut Work,
+        vain: &mut Vain,
+        most: usize,
+        may_part: bool,
+    ) -> Option<Program> {
+        let mark = mark_of(&self.names.words, self.goal, most, may_part);
+        if vain.has(mark) {
+            return None;
+        }
+        let found = self.of_many(work, most, may_part);
+        if found.is_none() {
+            vain.add(work, mark);
+        }
+        found
+    }
+
     // A program of two products; of more where passes without these gain nothing, since what takes
     // so many at once hides what windows share.
-    fn of_several(&self, work: &mut Work, most: usize, may_part: bool) -> Option<Program> {
+    fn of_many(&self, work: &mut Work, most: usize, may_part: bool) -> Option<Program> {
         let words = &self.names.words;
         let is_easy = is_easy(self.goal);
         if is_easy && let Some(found) = from_variables(work, words, self.goal, most) {

@@ -1,6 +1,8 @@
 // The search from both sides.
+use crate::disjoint::drop_disjoint;
 use crate::grouping::regroup;
 use crate::passes::{FEW_PRODUCTS, Order, settle};
+use crate::vain::Vain;
 use plan_tools::{Stop, Work};
 use product_rows::{by_table, drop_needless};
 use std::alloc::Global;
@@ -27,22 +29,34 @@ const LEAST_GAIN: usize = 50;
 /// No clause says so.
 pub fn propose(alloc: Global, sums: &Sums) -> Result<Proposal, Stop> {
     let mut work = Work::new(alloc, u64::MAX);
-    let begun = Graph::of(&mut work, sums);
     let bounds = Bounds::of(sums);
-    let best = from_both_sides(&begun, &mut work, bounds);
+    let mut vain = Vain::new(alloc);
+    let begun = Graph::of(&mut work, sums);
+    let best = with_disjoint(&begun, &mut work, &mut vain, bounds);
     if best.products >= bounds.products && bounds.are_many() {
         work.finish(())?;
         return Err(Stop::GaveUp);
     }
-    let best = with_table(begun, &mut work, bounds, best);
+    let best = with_table(begun, &mut work, &mut vain, bounds, best);
     work.finish(best.into_proposal())
+}
+
+// The better one of the searches with and without products whose factors never meet.
+fn with_disjoint(begun: &Graph, work: &mut Work, vain: &mut Vain, bounds: Bounds) -> Attempt {
+    let mut graph = begun.copy(work);
+    clean(&mut graph, work);
+    if !drop_disjoint(&mut graph, work) {
+        return from_both_sides(begun, work, vain, bounds);
+    }
+    let without = from_both_sides(&graph, work, vain, bounds);
+    without.better(from_both_sides(begun, work, vain, bounds))
 }
 
 // The better one of the searches that begin from the inputs and from the outputs, of which the
 // second is left out where little was gained of much, or nothing is new.
-fn from_both_sides(begun: &Graph, work: &mut Work, bounds: Bounds) -> Attempt {
+fn from_both_sides(begun: &Graph, work: &mut Work, vain: &mut Vain, bounds: Bounds) -> Attempt {
     let mut forth = Attempt::new(begun.copy(work), work);
-    forth.search(work, Order::Forth, bounds);
+    forth.search(work, vain, Order::Forth, bounds);
     if bounds.is_fruitless(forth.products) {
         return forth;
     }
@@ -50,13 +64,19 @@ fn from_both_sides(begun: &Graph, work: &mut Work, bounds: Bounds) -> Attempt {
     let done = back.graph.done();
     back.prepare(work, bounds);
     if forth.products < forth.begun || back.graph.done() > done {
-        back.search(work, Order::Back, bounds);
+        back.search(work, vain, Order::Back, bounds);
     }
     forth.better(back)
 }
 
 // The better one of an attempt and of that from a table, where this is not far from it.
-fn with_table(begun: Graph, work: &mut Work, bounds: Bounds, best: Attempt) -> Attempt {
+fn with_table(
+    begun: Graph,
+    work: &mut Work,
+    vain: &mut Vain,
+    bounds: Bounds,
+    best: Attempt,
+) -> Attempt {
     let mut graph = begun;
     if !by_table(&mut graph, work) {
         return best;
@@ -65,7 +85,7 @@ fn with_table(begun: Graph, work: &mut Work, bounds: Bounds, best: Attempt) -> A
     if graph.count() >= best.products.saturating_mul(2) {
         return best;
     }
-    best.better(from_both_sides(&graph, work, bounds))
+    best.better(from_both_sides(&graph, work, vain, bounds))
 }
 
 // How many products there were before anything was done, and the units that may be spent.
@@ -129,14 +149,14 @@ impl Attempt {
     }
 
     // Plateaus in both orders, as long as they gain.
-    fn search(&mut self, work: &mut Work, start: Order, bounds: Bounds) {
+    fn search(&mut self, work: &mut Work, vain: &mut Vain, start: Order, bounds: Bounds) {
         let mut order = start;
         let mut last = usize::MAX;
         for turn in 0..MOST_TURNS {
             if turn > 0 {
                 self.prepare(work, bounds);
             }
-            let now = self.settle(work, order, bounds.units);
+            let now = self.settle(work, vain, order, bounds.units);
             let gains = now.saturating_mul(LEAST_GAIN) <= last.saturating_mul(LEAST_GAIN - 1);
             if now >= last.min(self.begun) || now == 0 || work.is_stopped() {
                 return;
@@ -161,8 +181,8 @@ impl Attempt {
     }
 
     // Passes in one order until none gains; how many products there are then.
-    fn settle(&mut self, work: &mut Work, order: Order, most_units: u64) -> usize {
-        settle(&mut self.graph, work, order, most_units);
+    fn settle(&mut self, work: &mut Work, vain: &mut Vain, order: Order, most_units: u64) -> usize {
+        settle(&mut self.graph, work, vain, order, most_units);
         let now = self.graph.count();
         if now < self.products {
             self.products = now;
