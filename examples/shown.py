@@ -1,4 +1,4 @@
-"""The commands that documents show: how they are found, and what they answer when they are run.
+"""The commands that documents show: how they are found, and what they answer when they are run; and sizes of circuits.
 
 A command stands in an indented line behind a `$`, and its answer in the indented lines below it; a blank line between
 such lines belongs to the answer.
@@ -13,6 +13,7 @@ from typing import Iterator, List, NamedTuple, Optional, Tuple
 
 HERE = Path(__file__).resolve().parent
 DOCUMENTS = ["README.md", "docs/GUIDE.md", "docs/COMMANDS.md", "docs/PYTHON.md"]
+SIZE = re.compile(r"\d[\d,]* / \d[\d,]* / \d[\d,]*")
 CALL = re.compile(r"^    \$ (.*)\n((?:    (?!\$ ).*\n|\n(?=    (?!\$ )))*)", re.MULTILINE)
 
 
@@ -23,6 +24,12 @@ class Shown(NamedTuple):
 
 def shown_in(text: str) -> List[Shown]:
     return [Shown(call[1], re.sub(r"^    ", "", call[2], flags=re.MULTILINE)) for call in CALL.finditer(text)]
+
+
+def sizes_apart(document: str, tables: str) -> List[str]:
+    """The lines / gates / Toffoli gates of circuits that a document shows and the other one's tables lack."""
+    shown, held = ((HERE.parent / each).read_text(encoding="utf-8") for each in (document, tables))
+    return [size for size in SIZE.findall(shown) if size not in held and size.replace("/", "|") not in held]
 
 
 def run_in(document: str, program: str) -> Iterator[Tuple[Shown, Optional[str]]]:
