@@ -20,6 +20,27 @@ pub struct Range {
     pub to: u32,
 }
 
+/// Ranges of whole segments that are blocks.
+#[derive(Clone, Copy)]
+pub struct Blocks<'s> {
+    pub ranges: &'s [Range],
+    /// Of each node, whether it is made once more behind its block; of those beyond, it is not.
+    pub repeats: &'s [bool],
+}
+
+impl Blocks<'_> {
+    /// No blocks.
+    pub const NONE: Blocks<'static> = Blocks {
+        ranges: &[],
+        repeats: &[],
+    };
+
+    // Whether the node at a place is made once more.
+    fn repeats(self, place: u32) -> bool {
+        self.repeats.get(place as usize) == Some(&true)
+    }
+}
+
 /// How a schedule is made.
 #[derive(Clone, Copy)]
 pub struct Scheduling<'s> {
@@ -31,8 +52,7 @@ pub struct Scheduling<'s> {
     /// Of each node, whether it has no products and took a line of its own in an earlier sweep: it
     /// goes off at the end of its segment.
     pub copies: &'s Table<bool>,
-    /// Ranges of whole segments that are blocks.
-    pub blocks: &'s [Range],
+    pub blocks: Blocks<'s>,
 }
 
 impl Scheduling<'_> {
@@ -49,7 +69,7 @@ impl Scheduling<'_> {
             if self.starts.len() > 1 {
                 self.push_off(work, graph, range, &inner, &mut turns);
             }
-            self.push_close(work, range, &mut turns);
+            self.push_close(work, graph, range, &inner, &mut turns);
         }
         turns
     }
@@ -65,7 +85,7 @@ impl Scheduling<'_> {
 
     // Appends the turns by which nodes are made, and a block begins with them, if one does.
     fn push_on(self, work: &mut Work, range: Range, turns: &mut Vec<Turn>) {
-        for block in self.blocks {
+        for block in self.blocks.ranges {
             if block.from == range.from {
                 work.push(turns, Turn::Open);
             }
@@ -75,16 +95,65 @@ impl Scheduling<'_> {
         }
     }
 
-    // Appends the turns by which blocks end with a range.
-    fn push_close(self, work: &mut Work, range: Range, turns: &mut Vec<Turn>) {
-        for block in self.blocks {
+    // Appends the turns by which blocks end with a range, and nodes of these are made once more.
+    fn push_close(
+        self,
+        work: &mut Work,
+        graph: &SpanGraph,
+        range: Range,
+        inner: &Table<bool>,
+        turns: &mut Vec<Turn>,
+    ) {
+        for block in self.blocks.ranges {
             if block.to == range.to {
                 work.push(turns, Turn::Close(*block));
+                self.push_repeats(work, graph, *block, inner, turns);
             }
         }
     }
 
-    // Appends the turns by which nodes go off: those that have lines, but not those of outputs.
+    // Appends the turns by which nodes of a block are made once more, segment by segment.
+    fn push_repeats(
+        self,
+        work: &mut Work,
+        graph: &SpanGraph,
+        block: Range,
+        inner: &Table<bool>,
+        turns: &mut Vec<Turn>,
+    ) {
+        for segment in 0..self.starts.len() {
+            let range = self.range(graph, segment);
+            if block.has(range.from) {
+                self.push_repeats_on(work, range, turns);
+                self.push_repeats_off(work, graph, range, inner, turns);
+            }
+        }
+    }
+
+    fn push_repeats_on(self, work: &mut Work, range: Range, turns: &mut Vec<Turn>) {
+        for place in range.from..range.to {
+            if self.blocks.repeats(place) {
+                work.push(turns, Turn::On(place));
+            }
+        }
+    }
+
+    fn push_repeats_off(
+        self,
+        work: &mut Work,
+        graph: &SpanGraph,
+        range: Range,
+        inner: &Table<bool>,
+        turns: &mut Vec<Turn>,
+    ) {
+        for place in (range.from..range.to).rev() {
+            if self.blocks.repeats(place) && self.goes_off(graph, place, inner) {
+                work.push(turns, Turn::Off(place));
+            }
+        }
+    }
+
+    // Appends the turns by which nodes go off.
     fn push_off(
         self,
         work: &mut Work,
@@ -94,18 +163,34 @@ impl Scheduling<'_> {
         turns: &mut Vec<Turn>,
     ) {
         for place in (range.from..range.to).rev() {
-            let Some(node) = graph.node(place) else {
-                continue;
-            };
-            let marks = if node.is_linear() { self.copies } else { inner };
-            if !node.is_final && node.home.is_none() && marks.get(place) {
+            if self.goes_off(graph, place, inner) {
                 work.push(turns, Turn::Off(place));
             }
         }
     }
+
+    // Whether a node goes off at the end of its segment: one that has a line, but not that of an
+    // output.
+    fn goes_off(self, graph: &SpanGraph, place: u32, inner: &Table<bool>) -> bool {
+        let Some(node) = graph.node(place) else {
+            return false;
+        };
+        let marks = if node.is_linear() { self.copies } else { inner };
+        !node.is_final && node.home.is_none() && marks.get(place)
+    }
 }
 
 impl Range {
+    /// How many places it has.
+    pub fn size(self) -> u32 {
+        self.to.saturating_sub(self.from)
+    }
+
+    /// Whether it has a place.
+    pub fn has(self, place: u32) -> bool {
+        self.from <= place && place < self.to
+    }
+
     // Marks its nodes that are in factors of it, or in the bits of such a node.
     fn mark_inner(self, graph: &SpanGraph, inner: &mut Table<bool>) {
         for place in self.from..self.to {
@@ -125,11 +210,12 @@ impl Range {
         }
     }
 
-    fn mark(self, graph: &SpanGraph, symbols: &[u32], inner: &mut Table<bool>) {
+    /// Marks its nodes with these symbols.
+    pub fn mark(self, graph: &SpanGraph, symbols: &[u32], marks: &mut Table<bool>) {
         for symbol in symbols {
             if let Some(place) = graph.place(*symbol) {
-                if place >= self.from {
-                    inner.set(place, true);
+                if self.has(place) {
+                    marks.set(place, true);
                 }
             }
         }

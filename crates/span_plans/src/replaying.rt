@@ -126,7 +126,14 @@ impl Replay<'_> {
                 self.toggle_onto(toggle, &lines);
                 self.add(&toggle.after);
             }
-            Event::Close { ends, written } => self.close(ends, written),
+            Event::Close {
+                ends,
+                written,
+                renewals,
+            } => {
+                self.close(ends, written);
+                self.renew(renewals);
+            }
         }
     }
 
@@ -221,6 +228,17 @@ impl Replay<'_> {
         let stay = self.work.take(&mut self.stay);
         self.undo_others(&stay, first, behind);
         self.free.reset(&mut self.work);
+    }
+
+    // Behind a block rows go on, on the lines of rows that were there at its beginning.
+    fn renew(&mut self, renewals: &[End]) {
+        for renewal in renewals {
+            if let Some((first, others)) = renewal.rows.split_first() {
+                let line = self.rows.get(*first);
+                self.copy_sum(others, line);
+                self.rows.set(renewal.onto, line);
+            }
+        }
     }
 
     // The moves from `first` on that end before `behind` once more, from the last to the first, but

@@ -1,6 +1,6 @@
 // Vectors become rows, and sums of rows.
 use crate::rows::{Add, Rows};
-use plan_tools::{Row, Work};
+use plan_tools::{Reduced, Row, Work};
 use std::mem;
 
 /// By how many symbols a vector is to be shorter than the row with its head to take that head.
@@ -69,7 +69,7 @@ impl Rows {
         let sum = self.echelon.plus(work, &placing.vector, rival);
         let vector = mem::replace(&mut placing.vector, sum);
         let gives_way = vector.len().saturating_add(SHORTER) < self.echelon.vector(rival).len();
-        if !gives_way || self.kept.get(rival) {
+        if !gives_way {
             return rival;
         }
         // The vector takes the place of the rival's, to which the sum of the two goes on.
@@ -120,6 +120,15 @@ impl Rows {
         }
     }
 
+    /// Makes the rows span a vector, and changes none of them.
+    pub fn span(&mut self, work: &mut Work, vector: &[u32]) {
+        let Reduced { left, .. } = self.reduced(work, vector);
+        if !left.is_empty() {
+            let row = self.fresh(work);
+            self.put(work, row, left);
+        }
+    }
+
     // A new row, which is out, and is noted.
     fn fresh_inserted(&mut self, work: &mut Work) -> Row {
         let row = self.fresh(work);
@@ -147,7 +156,7 @@ impl Rows {
             return;
         };
         let is_shorter = vector.len() < self.echelon.vector(*first).len();
-        if others.is_empty() || !is_shorter || self.kept.get(*first) {
+        if others.is_empty() || !is_shorter {
             return;
         }
         for from in others {

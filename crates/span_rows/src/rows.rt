@@ -1,5 +1,5 @@
 // Rows in echelon form, with what changed them.
-use plan_tools::{Echelon, Reduced, Row, Table, Work, number};
+use plan_tools::{Echelon, Reduced, Row, Table, Work};
 use std::alloc::Global;
 use std::mem;
 
@@ -44,8 +44,6 @@ pub struct Rows {
     pub(crate) linear: Table<bool>,
     /// Of each symbol, whether it is to have a row of its own wherever it is wanted.
     forced: Table<bool>,
-    /// Of each row, whether no addition may change it.
-    pub(crate) kept: Table<bool>,
     /// The changes of rows, since the last call of `begin_changes`.
     changes: Option<Vec<Change>>,
     pub(crate) insertions: Insertions,
@@ -58,7 +56,6 @@ impl Rows {
             echelon: Echelon::new(work, linear.len()),
             linear: Table::of(linear, false),
             forced: Table::of(forced, false),
-            kept: Table::of(Vec::new(work.alloc), false),
             changes: None,
             insertions: Insertions::none(work.alloc),
         }
@@ -151,20 +148,6 @@ impl Rows {
                 self.echelon.put(work, row, before);
             }
         }
-    }
-
-    /// Rows that have a vector now may not be changed any more.
-    pub fn keep_all(&mut self, work: &mut Work) {
-        self.keep_none(work.alloc);
-        for row in 0..number(self.made()) {
-            let has_vector = !self.echelon.vector(row).is_empty();
-            self.kept.push(work, has_vector);
-        }
-    }
-
-    /// Each row may be changed again.
-    pub fn keep_none(&mut self, alloc: Global) {
-        self.kept = Table::of(Vec::new(alloc), false);
     }
 
     /// What insertions did so far is of no matter.

@@ -14,6 +14,11 @@ pub struct Block {
     nodes: Vec<BlockNode>,
     /// The rows that stay of it.
     rows: Vec<Row>,
+    /// The rows that are wanted behind it and have none of its nodes: they are made of the rows at
+    /// its beginning.
+    idle: Vec<RowVector>,
+    /// The place of its end among the events.
+    close: usize,
     /// The nodes without products that were written out in the vectors of rows.
     written: Vec<(Row, u32)>,
 }
@@ -47,6 +52,8 @@ impl Block {
             first,
             nodes,
             rows: Vec::new(work.alloc),
+            idle: Vec::new(work.alloc),
+            close: 0,
             written: Vec::new(work.alloc),
         }
     }
@@ -165,22 +172,28 @@ impl Block {
 impl Sweeper<'_> {
     /// Back over the end of a block, which is in no other one. The rows that have a node of it stay
     /// of it: they are taken out, and what their vectors are the sums of is inserted. The other
-    /// rows may not change in the block.
+    /// rows are taken out up to its beginning.
     pub fn back_over_close(&mut self, range: Range) {
         if self.block.is_some() {
             return self.work.give_up();
         }
         let (from, to) = (self.graph.symbol(range.from), self.graph.symbol(range.to));
         let mut rows = self.take_rows(from, to);
-        self.rows.keep_all(&mut self.work);
         let mut block = Block::new(&mut self.work, range, from);
+        block.idle = self.take_rows(0, from);
+        block.close = self.events.len();
         block.note_rows(&mut self.work, &rows);
         block.mark_inner(self.graph, range);
         self.insert_written(&mut block, &mut rows);
         let ends = self.ends_of(&rows);
         let written = self.work.take(&mut block.written);
         self.block = Some(block);
-        self.push(Event::Close { ends, written });
+        let renewals = Vec::new(self.work.alloc);
+        self.push(Event::Close {
+            ends,
+            written,
+            renewals,
+        });
     }
 
     // Writes nodes out in the vectors of rows, and inserts what is left of these.
@@ -206,8 +219,23 @@ impl Sweeper<'_> {
         let Some(block) = self.block.take() else {
             return self.work.give_up();
         };
-        self.rows.keep_none(self.work.alloc);
+        let found = self.renewals_of(&block.idle);
+        if let Some(Event::Close { renewals, .. }) = self.events.get_mut(block.close) {
+            *renewals = found;
+        }
         self.push(Event::Open { rows: block.rows });
+    }
+
+    // Idle rows as sums of those at the beginning of a block, from the greatest head down. The first
+    // row of a sum has the head of its vector, so it is no other sum's first, and in no later sum.
+    fn renewals_of(&mut self, idle: &[RowVector]) -> Vec<End> {
+        let mut renewals = Vec::new(self.work.alloc);
+        for RowVector { row, vector } in idle.iter().rev() {
+            self.rows.span(&mut self.work, vector);
+            let renewal = self.end(*row, vector);
+            self.work.push(&mut renewals, renewal);
+        }
+        renewals
     }
 
     /// Back over the toggle of a node that is not undone at the end of the block.

@@ -66,10 +66,13 @@ pub enum Event {
         rows: Vec<Row>,
     },
     /// A block ends: its rows take these sums, and then all else that it did is undone. Of nodes
-    /// without products that were written out in the vector of a row that row and the node.
+    /// without products that were written out in the vector of a row that row and the node. Then,
+    /// for each of the renewals, the first of its rows takes the others, and its line is that of
+    /// the row which the renewal is onto.
     Close {
         ends: Vec<End>,
         written: Vec<(Row, u32)>,
+        renewals: Vec<End>,
     },
 }
 

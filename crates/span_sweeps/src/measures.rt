@@ -86,7 +86,12 @@ impl Count {
                 self.block = Some(self.held);
             }
             // Only the lines of the block's rows are still held.
-            Event::Close { .. } => self.held = self.block.take().unwrap_or(self.held),
+            Event::Close { renewals, .. } => {
+                self.held = self.block.take().unwrap_or(self.held);
+                for end in renewals {
+                    self.add_cx(2, end.rows.len().saturating_sub(1));
+                }
+            }
         }
     }
 

@@ -7,7 +7,7 @@ use crate::rule::Rule;
 use crate::shapes::{SHAPES, blocks_of};
 use crate::sweeping::{Sweep, sweep_over};
 use plan_tools::{Size, Stop, Table, Work};
-use span_graphs::{Range, Scheduling, SpanGraph, Turn, chains, minima};
+use span_graphs::{Blocks, Range, Scheduling, SpanGraph, Turn, chains, minima, repeats};
 use std::alloc::Global;
 
 /// The most work that all sweeps of a search take together: the symbols that they add, and what
@@ -202,16 +202,32 @@ impl Search<'_> {
     // A rule with all segments cleaned, and the first ones in blocks: of more and more segments, for
     // more and more Toffoli gates.
     fn try_blocks(&mut self, rule: &mut Rule, most: usize, ranks: &[u32]) {
-        let all = rule.starts.len();
         for shape in &SHAPES {
-            let blocks = blocks_of(&mut self.work, &rule.starts, shape, ranks);
-            if self.may_have(&blocks) {
-                let outcome = self.try_sweep(rule, most, all, &blocks);
-                if self.is_beyond(outcome.measures.toffoli) {
-                    break;
-                }
+            let ranges = blocks_of(&mut self.work, &rule.starts, shape, ranks);
+            if self.may_have(&ranges) && !self.try_shape(rule, most, &ranges) {
+                break;
             }
         }
+    }
+
+    // A rule with blocks, and with some nodes made once more behind these; whether larger blocks may
+    // have few enough Toffoli gates.
+    fn try_shape(&mut self, rule: &mut Rule, most: usize, ranges: &[Range]) -> bool {
+        let all = rule.starts.len();
+        let blocks = Blocks {
+            ranges,
+            ..Blocks::NONE
+        };
+        let outcome = self.try_sweep(rule, most, all, blocks);
+        if self.is_beyond(outcome.measures.toffoli) {
+            return false;
+        }
+        let repeats = repeats(&mut self.work, self.graph, ranges);
+        let repeats = repeats.items();
+        if repeats.contains(&true) {
+            self.try_sweep(rule, most, all, Blocks { ranges, repeats });
+        }
+        true
     }
 
     // Whether there are blocks, and no node of them stays on the line of an output.
@@ -270,7 +286,7 @@ impl Search<'_> {
             let Some(middle) = bounds.middle(halving % 2 == 0) else {
                 break;
             };
-            let Outcome { fits, measures, .. } = self.try_sweep(rule, most, middle, &[]);
+            let Outcome { fits, measures, .. } = self.try_sweep(rule, most, middle, Blocks::NONE);
             if fits {
                 bounds.yes = middle;
                 bounds.under = self.room.saturating_sub(measures.work);
@@ -300,11 +316,11 @@ impl Search<'_> {
 
     // A sweep, and a second one where the first one told more of nodes without products.
     fn sweep_twice(&mut self, rule: &mut Rule, most: usize, cleaned: usize) -> Outcome {
-        let first = self.try_sweep(rule, most, cleaned, &[]);
+        let first = self.try_sweep(rule, most, cleaned, Blocks::NONE);
         if !first.is_new {
             return first;
         }
-        let mut second = self.try_sweep(rule, most, cleaned, &[]);
+        let mut second = self.try_sweep(rule, most, cleaned, Blocks::NONE);
         second.fits |= first.fits;
         second
     }
@@ -315,7 +331,7 @@ impl Search<'_> {
         rule: &mut Rule,
         most: usize,
         cleaned: usize,
-        blocks: &[Range],
+        blocks: Blocks<'_>,
     ) -> Outcome {
         match self.sweep(rule, cleaned, blocks) {
             Ok(mut candidate) => {
@@ -330,7 +346,12 @@ impl Search<'_> {
         }
     }
 
-    fn sweep(&mut self, rule: &Rule, cleaned: usize, blocks: &[Range]) -> Result<Candidate, Stop> {
+    fn sweep(
+        &mut self,
+        rule: &Rule,
+        cleaned: usize,
+        blocks: Blocks<'_>,
+    ) -> Result<Candidate, Stop> {
         self.work.finish(())?;
         let scheduling = Scheduling {
             starts: &rule.starts,
