@@ -111,7 +111,7 @@ WHOLE = [
         (dict(key=lowest_first(KEY), text=lowest_first(PLAIN)), in_bytes("69c4e0d86a7b0430d8cdb78070b4c55a")),
         (dict(key=lowest_first("2b7e151628aed2a6abf7158809cf4f3c"), text=lowest_first("3243f6a8885a308d313198a2e0370734")),
          in_bytes("3925841d02dc09fbdc118597196a0b32"))],
-          lines=(2285, 1236)),
+          lines=(2285, 1236, 1024)),
     Whole(chacha20, "ChaCha20, the block function", [
         (dict(key=lowest_first("".join("%02x" % i for i in range(32))), counter=1,
               nonce=lowest_first("000000090000004a00000000")),
