@@ -18,7 +18,8 @@ use Rattle.sum_graph.proofs.PlaceLemmas.{IsGrown, few_grown, grown_from, known_g
 use Rattle.sum_graph.proofs.SumNodeLemmas.{value_of_sum}
 use Rattle.sum_graph.proofs.WalkLemmas.{take_next}
 use Rattle.few_products.specs.declared.placing.Place.{Place}
-use Rattle.few_products.specs.inside.Writing.{Agree, ArePlaces, IsAtPlace, IsFactorAt, IsPlaceOf, IsWritten, StandsFor, bit_on, only_bits, product_sum}
+use Rattle.few_products.specs.declared.placing.Written.{Written}
+use Rattle.few_products.specs.inside.Writing.{Agree, ArePlaces, IsAtPlace, IsReady, Keeps, IsFactorAt, IsPlaceOf, IsWritten, StandsFor, bit_on, only_bits, product_sum}
 
 -- ---- nodes that grow
 
@@ -269,3 +270,22 @@ product_written n places p old mid new a b sum are first second is =
           (second.values input bit (agree_still n places old mid input bit are before agree))
           ∙ product_alone (product_value bit p);
     }
+
+-- ---- what is kept while nodes are written
+
+pub kept_same : (w : Written) → Keeps w w
+kept_same w = record { inputs = refl; places = refl }
+
+pub kept_further : (old mid new : Written) → Keeps old mid → Keeps mid new → Keeps old new
+kept_further old mid new first second = record { inputs = second.inputs ∙ first.inputs; places = second.places ∙ first.places }
+
+pub still_ready : (old new : Written) → Keeps old new → ArePlaces old.inputs old.places.items new.nodes.keys → IsReady new
+still_ready old new kept are = rw (kept.inputs, kept.places) are
+
+-- what holds of the inputs and places later holds of those before
+pub of_first : (P : ℕ → List (Option Place) → Type 0) (old new : Written) → Keeps old new → P new.inputs new.places.items → P old.inputs old.places.items
+of_first P old new kept is = subst (λ n. P n old.places.items) kept.inputs (subst (λ (l : List (Option Place)). P new.inputs l) kept.places is)
+
+pub of_later : (P : ℕ → List (Option Place) → Type 0) (old new : Written) → Keeps old new → P old.inputs old.places.items → P new.inputs new.places.items
+of_later P old new kept is =
+    subst (λ n. P n new.places.items) (sym kept.inputs) (subst (λ (l : List (Option Place)). P old.inputs l) (sym kept.places) is)

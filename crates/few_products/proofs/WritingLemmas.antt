@@ -15,8 +15,9 @@ use Rattle.bit_sums.specs.Sums.{SumView, sum_value}
 use Rattle.sum_graph.specs.Graphs.{IsKnownSum, bit_sum, is_known, sum_on}
 use Rattle.sum_graph.proofs.PlaceLemmas.{IsGrown, same_value, still_known}
 use Rattle.few_products.specs.declared.placing.Place.{Place}
-use Rattle.few_products.specs.inside.Writing.{HaveNoPlace, AreWritten, IsNamed, IsOutput, IsPlaceOf, IsValuation, IsWhole, IsWritten, bit_on}
-use Rattle.few_products.proofs.PlacingLemmas.{agree_still, within_still}
+use Rattle.few_products.specs.declared.placing.Written.{Written}
+use Rattle.few_products.specs.inside.Writing.{HaveNoPlace, AreWritten, HasWritten, IsNamed, IsOutput, IsPlaceOf, IsValuation, IsWhole, IsWritten, IsWrittenNode, IsWrittenOutput, bit_on}
+use Rattle.few_products.proofs.PlacingLemmas.{agree_still, of_later, within_still}
 use Rattle.few_products.proofs.ReadingLemmas.{read_set}
 
 -- ---- nodes
@@ -82,6 +83,13 @@ one_more_written n definitions places old new k s place are e at =
           };
     }
 
+pub next_written : (definitions : List SumView) (old new : Written) (k : ℕ) (s : SumView) (place : Place) → HasWritten definitions old
+    → slice_get definitions k ≡ Some s → IsWrittenNode s old new place
+    → AreWritten new.inputs definitions (set new.places.items k (Some place)) new.nodes.keys
+next_written definitions old new k s place are e is =
+    of_later (λ n places. AreWritten n definitions (set places k (Some place)) new.nodes.keys) old new is.0
+    (one_more_written old.inputs definitions old.places.items old.nodes.keys new.nodes.keys k s place are e is.1)
+
 -- ---- outputs
 
 one_bit : (v : Bool) → xor false (xor (xor v false) false) ≡ v
@@ -145,13 +153,21 @@ one_more_output n definitions places k count node old new sums sum at are is =
           (is.values input bit (are.written.agree input bit v) v.holds ∙ ap (λ (i : ℕ). bit (bases.Node i)) last);
     }
 
-pub whole : (n : ℕ) (definitions : List SumView) (places : List (Option Place)) (k i count : ℕ) (nodes all sums : List SumView) → i ≡ count
-    → all ≡ nodes → AreOutputs n definitions places k i nodes sums → IsWhole n definitions k count all sums
-whole n definitions places k i count nodes all sums end same are =
-    subst (λ (l : List SumView). IsWhole n definitions k count l sums) (sym same) (record {
+pub next_output : (definitions : List SumView) (k count node : ℕ) (old new : Written) (sums : List SumView) (sum : SumView) → node ≡ k + count
+    → AreOutputs old.inputs definitions old.places.items k count old.nodes.keys sums → IsWrittenOutput definitions node old new sum
+    → AreOutputs new.inputs definitions new.places.items k (count + 1) new.nodes.keys (sums ++ sum ∷ [])
+next_output definitions k count node old new sums sum at are is =
+    of_later (λ n places. AreOutputs n definitions places k (count + 1) new.nodes.keys (sums ++ sum ∷ [])) old new is.0
+    (one_more_output old.inputs definitions old.places.items k count node old.nodes.keys new.nodes.keys sums sum at are is.1)
+
+pub whole : (n m : ℕ) (definitions : List SumView) (places : List (Option Place)) (k i count : ℕ) (nodes all sums : List SumView) → n ≡ m → i ≡ count
+    → all ≡ nodes → AreOutputs n definitions places k i nodes sums → IsWhole m definitions k count all sums
+whole n m definitions places k i count nodes all sums inputs end same are =
+    subst (λ j. IsWhole j definitions k count all sums) inputs
+    (subst (λ (l : List SumView). IsWhole n definitions k count l sums) (sym same) (record {
       known = are.written.standing.known;
       few = are.written.few;
       long = are.long ∙ end;
       each = are.each;
       values = are.values;
-    })
+    }))

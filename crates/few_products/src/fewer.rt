@@ -91,10 +91,10 @@ fn written(
         Err(Stop::GaveUp) => return Ok(None),
         Err(Stop::Memory(memory)) => return Err(memory),
     };
-    let Some(nodes) = nodes_in_order(alloc, inputs, all, &order)? else {
+    let Some(written) = nodes_in_order(alloc, inputs, all, &order)? else {
         return Ok(None);
     };
-    let Some(outputs) = outputs_from(alloc, inputs, all, nodes, first, count)? else {
+    let Some(outputs) = outputs_from(alloc, all, written, first, count)? else {
         return Ok(None);
     };
     let made = SumGraph::new(alloc, inputs, outputs.nodes, outputs.sums)?;

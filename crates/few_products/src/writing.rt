@@ -1,10 +1,9 @@
 // The nodes and outputs of a graph, written from the sums of nodes.
 ghost use Rattle.std.specs.Prelude.{◌≡◌, ◌<◌, ◌+◌, ◌^◌, IfOk, IfSome};
-ghost use Rattle.few_products.specs.inside.Writing.{AreWritten, ArePlaces, HaveNoPlace};
-ghost use Rattle.few_products.specs.inside.Writing.{IsOutput, IsPlaceOf};
-ghost use Rattle.few_products.specs.inside.Writing.{IsNamed, IsWhole};
+ghost use Rattle.few_products.specs.inside.Writing.{HasWritten, HaveNoPlace, IsNamed, IsReady};
+ghost use Rattle.few_products.specs.inside.Writing.{IsWhole, IsWrittenNode, IsWrittenOutput};
 
-use crate::placing::{Place, sum_at};
+use crate::placing::{Place, Written};
 use bit_sums::Sum;
 use dependency_graph::Base;
 use indexmap::IndexSet;
@@ -13,13 +12,6 @@ use revs_tape::limits::MOST_WRITES;
 use std::alloc::Global;
 use sum_graph::node_of;
 use wide_sums::WideSum;
-
-/// Written nodes, and at which of them other nodes stand.
-#[derive(Drop)]
-pub struct Written {
-    pub nodes: IndexSet<Sum>,
-    pub places: Vec<Option<Place>>,
-}
 
 /// Written nodes, and sums over them.
 #[derive(Drop)]
@@ -37,20 +29,25 @@ pub fn nodes_in_order(
     order: &[u32],
 ) -> Result<Option<Written>, Memory>
     ensures { IfOk result (λ found. IfSome found (λ written.
-        AreWritten inputs definitions.now written.places.items written.nodes.keys)) }
+        (written.inputs ≡ inputs) × HasWritten definitions.now written)) }
 {
-    let mut nodes = IndexSet::new(alloc);
-    let mut places = nowhere(alloc, definitions.len())?;
+    let nodes = IndexSet::new(alloc);
+    let places = nowhere(alloc, definitions.len())?;
+    let mut written = Written {
+        inputs,
+        nodes,
+        places,
+    };
     for node in order {
         let Some(sum) = definitions.get(*node as usize) else {
             return Ok(None);
         };
-        let Some(place) = write_node(alloc, &mut nodes, inputs, &places, sum)? else {
+        let Some(place) = written.write_node(alloc, sum)? else {
             return Ok(None);
         };
-        places[*node as usize] = Some(place);
+        written.places[*node as usize] = Some(place);
     }
-    Ok(Some(Written { nodes, places }))
+    Ok(Some(written))
 }
 
 // So many nodes that have no place.
@@ -64,55 +61,30 @@ fn nowhere(alloc: Global, count: usize) -> Result<Vec<Option<Place>>, Memory>
     Ok(places)
 }
 
-// Writes a node; its place.
-fn write_node(
-    alloc: Global,
-    nodes: &mut IndexSet<Sum>,
-    inputs: u32,
-    places: &[Option<Place>],
-    sum: &WideSum,
-) -> Result<Option<Place>, Memory>
-    requires { ArePlaces inputs places.now nodes.old.keys }
-    ensures { IfOk result (λ found. IfSome found (IsPlaceOf inputs places.now sum.now
-        nodes.old.keys nodes.new.keys)) }
-{
-    let Some(whole) = sum_at(alloc, nodes, inputs, places, sum)? else {
-        return Ok(None);
-    };
-    if nodes.len() >= MOST_WRITES {
-        return Ok(None);
-    }
-    let whole = whole.finish()?;
-    let negated = whole.one();
-    let node = node_of(nodes, whole.without_one())?;
-    Ok(Some(Place { node, negated }))
-}
-
 /// The sums of so many nodes from one on, as outputs; none where one is of a node that is not
 /// written.
 pub fn outputs_from(
     alloc: Global,
-    inputs: u32,
     definitions: &[WideSum],
     written: Written,
     first: u32,
     count: u32,
 ) -> Result<Option<Outputs>, Memory>
-    requires written { AreWritten inputs definitions.now written.places.items
-        written.nodes.keys }
+    requires written { HasWritten definitions.now written }
     requires few { first + count < 2 ^ 32 }
-    ensures { IfOk result (λ found. IfSome found (λ outputs. IsWhole inputs definitions.now first
-        count outputs.nodes.items outputs.sums.items)) }
+    ensures { IfOk result (λ found. IfSome found (λ outputs. IsWhole written.inputs definitions.now
+        first count outputs.nodes.items outputs.sums.items)) }
 {
-    let Written { mut nodes, places } = written;
+    let mut written = written;
     let mut sums = Vec::new(alloc);
     for number in 0..count {
         let node = first.saturating_add(number);
-        let Some(sum) = output(alloc, &mut nodes, inputs, &places, definitions, node)? else {
+        let Some(sum) = written.output(alloc, definitions, node)? else {
             return Ok(None);
         };
         sums.push(sum)?;
     }
+    let Written { nodes, .. } = written;
     let nodes = listed(alloc, nodes)?;
     Ok(Some(Outputs { nodes, sums }))
 }
@@ -125,26 +97,43 @@ fn listed(alloc: Global, nodes: IndexSet<Sum>) -> Result<Vec<Sum>, Memory>
     Ok(list)
 }
 
-// The sum of a node as an output: its bit where it is written, else its sum.
-fn output(
-    alloc: Global,
-    nodes: &mut IndexSet<Sum>,
-    inputs: u32,
-    places: &[Option<Place>],
-    definitions: &[WideSum],
-    node: u32,
-) -> Result<Option<Sum>, Memory>
-    requires { ArePlaces inputs places.now nodes.old.keys }
-    ensures { IfOk result (λ found. IfSome found (IsOutput inputs definitions.now places.now node
-        nodes.old.keys nodes.new.keys)) }
-{
-    let Some(named) = named(alloc, places, definitions, node)? else {
-        return Ok(None);
-    };
-    let Some(sum) = sum_at(alloc, nodes, inputs, places, &named)? else {
-        return Ok(None);
-    };
-    Ok(Some(sum.finish()?))
+impl Written {
+    // Writes a node; its place.
+    fn write_node(&mut self, alloc: Global, sum: &WideSum) -> Result<Option<Place>, Memory>
+        requires { IsReady self.old }
+        ensures { IfOk result (λ found. IfSome found (IsWrittenNode sum.now self.old self.new)) }
+    {
+        let Some(whole) = self.sum_at(alloc, sum)? else {
+            return Ok(None);
+        };
+        if self.nodes.len() >= MOST_WRITES {
+            return Ok(None);
+        }
+        let whole = whole.finish()?;
+        let negated = whole.one();
+        let node = node_of(&mut self.nodes, whole.without_one())?;
+        Ok(Some(Place { node, negated }))
+    }
+
+    // The sum of a node as an output: its bit where it is written, else its sum.
+    fn output(
+        &mut self,
+        alloc: Global,
+        definitions: &[WideSum],
+        node: u32,
+    ) -> Result<Option<Sum>, Memory>
+        requires { IsReady self.old }
+        ensures { IfOk result (λ found. IfSome found
+            (IsWrittenOutput definitions.now node self.old self.new)) }
+    {
+        let Some(named) = named(alloc, &self.places, definitions, node)? else {
+            return Ok(None);
+        };
+        let Some(sum) = self.sum_at(alloc, &named)? else {
+            return Ok(None);
+        };
+        Ok(Some(sum.finish()?))
+    }
 }
 
 // The bit of a node that has a place, and the sum of one that has none.

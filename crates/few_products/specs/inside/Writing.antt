@@ -13,6 +13,7 @@ use Rattle.bit_sums.specs.Sums.{ProductView, SumView, AreAll, sum_value, xor_by}
 use Rattle.sum_graph.specs.Graphs.{AreKnownSums, IsKnownSum, is_known, sum_on, sums_made}
 use Rattle.wide_sums.specs.Wide.{Holds}
 use Rattle.few_products.specs.declared.placing.Place.{Place}
+use Rattle.few_products.specs.declared.placing.Written.{Written}
 
 -- ---- parts of sums
 
@@ -138,3 +139,35 @@ pub record IsWhole (n : ℕ) (definitions : List SumView) (k count : ℕ)
   pub each : AllByRecursion (IsKnownSum n (length nodes)) sums
   pub values : (input : List Bool) (bit : Base → Bool) → IsValuation definitions input bit
       → AllFrom (λ j sum. sum_on nodes input sum ≡ bit (bases.Node (k + j))) 0 sums
+
+-- ---- what was written
+
+-- nodes may have come, and nothing else has changed
+pub record Keeps (old new : Written) : Type 0 where
+  pub inputs : new.inputs ≡ old.inputs
+  pub places : new.places.items ≡ old.places.items
+
+abbrev pub IsReady : Written → Type 0
+IsReady w = ArePlaces w.inputs w.places.items w.nodes.keys
+
+abbrev pub HasWritten : List SumView → Written → Type 0
+HasWritten definitions w = AreWritten w.inputs definitions w.places.items w.nodes.keys
+
+-- a sum, a factor, a node or an output, before and behind the nodes that came for it
+abbrev pub IsWrittenSum : SumView → Written → Written → SumView → Type 0
+IsWrittenSum s old new sum =
+    Keeps old new × IsWritten old.inputs old.places.items s old.nodes.keys new.nodes.keys sum
+
+abbrev pub IsWrittenFactor : List Base → Written → Written → FactorView → Type 0
+IsWrittenFactor bits old new factor =
+    Keeps old new
+    × IsFactorAt old.inputs old.places.items bits old.nodes.keys new.nodes.keys factor
+
+abbrev pub IsWrittenNode : SumView → Written → Written → Place → Type 0
+IsWrittenNode s old new place =
+    Keeps old new × IsPlaceOf old.inputs old.places.items s old.nodes.keys new.nodes.keys place
+
+abbrev pub IsWrittenOutput : List SumView → ℕ → Written → Written → SumView → Type 0
+IsWrittenOutput definitions k old new sum =
+    Keeps old new
+    × IsOutput old.inputs definitions old.places.items k old.nodes.keys new.nodes.keys sum
