@@ -1,13 +1,14 @@
 -- The copied plan, and the law of depth.
-use Rattle.std.proofs.Common.{◌≡◌, ◌*◌, ◌≤◌, ap, arith}
+use Rattle.std.proofs.Common.{◌≡◌, ap, arith, Ok, Err}
+use Rattle.std.specs.Prelude.{IfOk, Result}
+use Rattle.circuit_plans.specs.declared.plan.PlanFault.{PlanFault}
 use Rattle.circuit_plans.specs.Plans.{BudgetView, LaidView, PlannedView}
 use Rattle.claim_check.specs.Settled.{SettledView}
-use Rattle.copied_plans.specs.Levels.{and_depth}
 use Rattle.copied_plans.specs.Plans.{CopiedFits, IsCopiedPlan}
 use Rattle.flip_orders.specs.Orders.{IsReorderedPlan}
 use Rattle.mct_circuit.specs.Sizes.{toffoli_depth_of}
 use Rattle.plan_choice.specs.Choices.{IsShallow}
-use Rattle.plan_choice.specs.inside.Tried.{IsCopied, IsLaidAsIs, IsShallowFor}
+use Rattle.plan_choice.specs.inside.Tried.{HasSmallDepth, IsCopied, IsLaidAsIs, IsShallowFor}
 use Rattle.plan_choice.proofs.ShallowLemmas.{shallow_laid, shallow_reordered}
 
 -- the copied plan, laid and in another order
@@ -21,8 +22,13 @@ copied_laid s b p laid new copied kept is = record {
 
 -- a plan that is no deeper keeps the law
 pub small_is_shallow : (s : SettledView) (b : BudgetView) (laid : LaidView) → IsShallowFor s b laid
-    → toffoli_depth_of laid.circuit.gates ≤ 2 * and_depth s.nodes → IsShallow s b laid
+    → HasSmallDepth s laid → IsShallow s b laid
 small_is_shallow s b laid is small = record { narrow = is.narrow; depth = λ m within fits. small }
+
+pub small_tried : (s : SettledView) (b : BudgetView) (tried : Result LaidView PlanFault) → IfOk tried (IsShallowFor s b) → IfOk tried (HasSmallDepth s)
+    → IfOk tried (IsShallow s b)
+small_tried s b (Ok laid) is small = small_is_shallow s b laid is small
+small_tried s b (Err fault) is small = tt
 
 -- and so does any where the row does not fit
 pub no_row_is_shallow : (s : SettledView) (b : BudgetView) (laid : LaidView) → IsShallowFor s b laid → ¬ CopiedFits s b → IsShallow s b laid

@@ -1,8 +1,8 @@
 -- Plans of a lean graph, laid.
-use Rattle.std.proofs.Common.{◌≡◌, ℕ, ◌+◌, ◌*◌, ◌≤◌, Bool, false, true, List, [], ◌∷◌, length, None, Ok}
+use Rattle.std.proofs.Common.{◌≡◌, ℕ, ◌+◌, ◌*◌, ◌≤◌, Bool, false, true, List, [], ◌∷◌, length, Ok}
 use Rattle.std.proofs.Common.{ap, subst, sym, ◌∙◌, inl, inr, arith}
 use Rattle.std.specs.List.{AllByRecursion}
-use Rattle.std.specs.Prelude.{◌⊎◌, if◌then◌else◌, sum_by, IfErr, IfOk, IfSome, Option, Result, Some}
+use Rattle.std.specs.Prelude.{◌⊎◌, if◌then◌else◌, sum_by, IfErr, IfOk, Result}
 use Rattle.std.proofs.lemmas.List.Sums.{sum_by-cons}
 use Rattle.std.proofs.lemmas.Result.{IfErr-weaker, IfOk-weaker}
 use Rattle.bennett_pebbling.specs.Pebbling as sums
@@ -245,22 +245,6 @@ module _ (s : SettledView) (l : SumGraphView) (b : BudgetView) (lean : IsLeanOf 
         clean = of.clean start (settled_outputs s)
             (same_outputs start (roles_of_plan p) p.circuit.gates (sum_outputs l) (settled_outputs s) lean.values plan.clean);
       }
-
-  -- a plan of the settled graph that was found is one of the lean graph
-  pub lean_found : (start : Start) (found : Option PlannedView)
-      → IfSome found (IsNarrowPlan start s.inputs (length s.outputs) (settled_outputs s) b)
-      → IfSome found (IsNarrowPlan start l.inputs (length l.outputs) (sum_outputs l) b)
-  lean_found start None is = tt
-  lean_found start (Some p) plan = record {
-    ports = record {
-      inputs = plan.ports.inputs ∙ sym lean.inputs;
-      outputs = plan.ports.outputs ∙ sym lean.outputs;
-      lines = omega (arith, plan.ports.lines, lean.inputs, lean.outputs);
-    };
-    clean = same_outputs start (roles_of_plan p) p.circuit.gates (settled_outputs s) (sum_outputs l) (λ input. sym (lean.values input)) plan.clean;
-    within = plan.within;
-    narrow = plan.narrow;
-  }
 
   thrifty : (laid : LaidView) → toffoli laid ≤ 2 * products_in l.nodes + products_in l.outputs → HasFewToffoliGates s laid
   thrifty laid few = record {

@@ -1,6 +1,6 @@
 pub mod CopiedLemmas
-pub mod FewerLemmas
 pub mod LeanLemmas
+pub mod SameLemmas
 pub mod SearchLemmas
 pub mod ShallowLemmas
 pub mod SplitLemmas

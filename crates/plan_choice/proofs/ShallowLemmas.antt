@@ -1,24 +1,22 @@
 -- Plans of small Toffoli depth.
-use Rattle.std.proofs.Common.{◌≡◌, ℕ, ◌+◌, ◌≤◌, length, ap, subst, sym, ◌∙◌, inl, inr, None, Ok, Err, ok_or}
+use Rattle.std.proofs.Common.{◌≡◌, ℕ, ◌≤◌, length, ap, subst, sym, ◌∙◌, inl, inr, None, Ok, Err, ok_or}
 use Rattle.std.specs.Prelude.{◌⊎◌, IfErr, IfOk, IfSome, Option, Some, Result}
 use Rattle.std.proofs.lemmas.Result.{IfErr-weaker}
 use Rattle.circuit_plans.specs.declared.choice.Plan.TheVariants.{Lean, Shallow}
 use Rattle.circuit_plans.specs.declared.plan.PlanFault.{PlanFault}
 use Rattle.circuit_plans.specs.declared.plan.PlanFault.TheVariants.{Lines, Gates, Memory}
 use Rattle.circuit_plans.specs.declared.roles.Roles.{Roles}
-use Rattle.circuit_plans.specs.declared.roles.Start.{Start}
 use Rattle.circuit_plans.specs.declared.roles.Start.TheVariants.{Any}
-use Rattle.circuit_plans.specs.Plans.{AddsOutputs, BudgetView, IsNarrowPlan, LaidView, PlannedView, roles_of_plan}
+use Rattle.circuit_plans.specs.Plans.{AddsOutputs, BudgetView, IsNarrowPlan, LaidView, PlannedView}
 use Rattle.claim_check.specs.Settled.{SettledView, settled_outputs}
 use Rattle.few_products.specs.Fewer.{IsFewerOf}
 use Rattle.flip_orders.specs.Orders.{IsReorderedPlan}
 use Rattle.flip_orders.proofs.ReorderingLemmas.{length-reordered, narrow-reordered}
 use Rattle.mct_circuit.specs.Gates.{AreNarrow}
 use Rattle.single_products.specs.Singles.{IsSingleOf}
-use Rattle.sum_graph.specs.Graphs.{IsLeanOf, SumGraphView, sum_outputs}
+use Rattle.sum_graph.specs.Graphs.{IsLeanOf, SumGraphView}
 use Rattle.plan_choice.specs.Choices.{IsChoiceFault, IsLaidFor, IsLean}
 use Rattle.plan_choice.specs.inside.Tried.{HasOutputsOf, IsLaidAsIs, IsShallowFor}
-use Rattle.eager_cleanup.proofs.PlanLemmas.{same_outputs}
 
 pub lean_outputs : (s : SettledView) (l : SumGraphView) → IsLeanOf s l → HasOutputsOf s l
 lean_outputs s l lean = record { inputs = lean.inputs; outputs = lean.outputs; values = lean.values }
@@ -38,22 +36,7 @@ fewer_outputs s l f lean is = record {
   values = λ input. is.values input ∙ lean.values input;
 }
 
--- a plan of a graph of sums that has the outputs of a settled graph is one of that
-pub settled_plan : (start : Start) (s : SettledView) (l : SumGraphView) (b : BudgetView) (p : PlannedView) → HasOutputsOf s l
-    → IsNarrowPlan start l.inputs (length l.outputs) (sum_outputs l) b p → IsNarrowPlan start s.inputs (length s.outputs) (settled_outputs s) b p
-settled_plan start s l b p has plan = record {
-  ports = record {
-    inputs = plan.ports.inputs ∙ has.inputs;
-    outputs = plan.ports.outputs ∙ has.outputs;
-    lines = plan.ports.lines ∙ ap (λ (n : ℕ). n + p.work) (ap (λ (n : ℕ). n + length l.outputs) has.inputs
-        ∙ ap (λ (n : ℕ). s.inputs + n) has.outputs);
-  };
-  clean = same_outputs start (roles_of_plan p) p.circuit.gates (sum_outputs l) (settled_outputs s) has.values plan.clean;
-  within = plan.within;
-  narrow = plan.narrow;
-}
-
--- and laid it is a plan of the settled graph
+-- a narrow plan of the settled graph, laid
 pub shallow_laid : (s : SettledView) (b : BudgetView) (p : PlannedView) (laid : LaidView)
     → IsNarrowPlan Any s.inputs (length s.outputs) (settled_outputs s) b p → IsLaidAsIs p b laid → IsShallowFor s b laid
 shallow_laid s b p laid plan kept =
@@ -130,11 +113,3 @@ found_err s b found fault r is same = subst (λ (x : Result LaidView PlanFault).
     of_either : (o : Option LaidView) → IfErr (ok_or o fault) (IsChoiceFault Shallow s b)
     of_either None = is
     of_either (Some laid) = tt
-
--- the plan of a graph of sums that was found, as one of the settled graph
-pub settled_found : {E : Type 0} (start : Start) (s : SettledView) (l : SumGraphView) (b : BudgetView) (r : Result (Option PlannedView) E) → HasOutputsOf s l
-    → IfOk r (λ found. IfSome found (IsNarrowPlan start l.inputs (length l.outputs) (sum_outputs l) b))
-    → IfOk r (λ found. IfSome found (IsNarrowPlan start s.inputs (length s.outputs) (settled_outputs s) b))
-settled_found start s l b (Ok None) has is = tt
-settled_found start s l b (Ok (Some p)) has is = settled_plan start s l b p has is
-settled_found start s l b (Err e) has is = tt

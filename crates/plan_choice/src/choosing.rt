@@ -7,7 +7,7 @@ ghost use Rattle.circuit_plans.specs.declared.choice.Plan.TheVariants.{Auto, Com
 ghost use Rattle.circuit_plans.specs.declared.roles.Start.TheVariants.{Any};
 ghost use Rattle.circuit_plans.specs.Plans.{HasPortLines, start_of};
 
-use crate::copied::or_copied;
+use crate::copied::{keeps_law, or_copied};
 use crate::fewer::worth_a_search;
 use crate::laying::{Tried, is_refused, lay_eager};
 use crate::lean::lay_lean;
@@ -103,8 +103,9 @@ fn lean_plan(alloc: Global, graph: &Settled, budget: &Budget, start: Start) -> T
     lay_lean(alloc, graph, &lean, fewer.as_ref(), budget, start)
 }
 
-// The best plan of the lean graph for any bits on the output lines, or a shallower one; the copied
-// plan where the law of depth wants it.
+// The best plan of the lean graph for any bits on the output lines, or a shallower one. Where too
+// few lines kept its depth above twice the AND depth, one of longer sums or the copied plan, where
+// the law of depth wants it.
 fn shallow_plan(alloc: Global, graph: &Settled, budget: &Budget) -> Tried
     requires { HasPortLines (ports_of graph.now) budget.now }
     ensures ok { IfOk result (IsLaidFor Any graph.now budget.now) }
@@ -116,6 +117,10 @@ fn shallow_plan(alloc: Global, graph: &Settled, budget: &Budget) -> Tried
     let tried = lay_lean(alloc, graph, &lean, fewer.as_ref(), budget, Start::Any);
     let fewer = worth_a_search(&lean, fewer.as_ref());
     let tried = or_shallower(alloc, graph, fewer, budget, tried);
+    let small = keeps_law(alloc, graph, &tried)?;
+    if small {
+        return tried;
+    }
     let tried = or_of_longer_sums(alloc, graph, budget, tried);
     or_copied(alloc, graph, budget, tried)
 }

@@ -1,14 +1,12 @@
 // The copied plan, where the law of depth wants it.
-ghost use Rattle.std.specs.Prelude.{◌≡◌, ◌*◌, ◌≤◌, IfErr, IfOk, IsTrue, MatchOption};
+ghost use Rattle.std.specs.Prelude.{◌≡◌, IfErr, IfOk, IsTrue, MatchOption};
 ghost use Rattle.circuit_plans.specs.declared.choice.Plan.TheVariants.{Shallow};
 ghost use Rattle.circuit_plans.specs.declared.roles.Start.TheVariants.{Any};
 ghost use Rattle.circuit_plans.specs.Plans.{HasPortLines};
-ghost use Rattle.copied_plans.specs.Levels.{and_depth};
 ghost use Rattle.copied_plans.specs.Plans.{CopiedFits};
 ghost use Rattle.eager_cleanup.specs.Eager.{ports_of};
-ghost use Rattle.mct_circuit.specs.Sizes.{toffoli_depth_of};
 ghost use Rattle.plan_choice.specs.Choices.{IsChoiceFault, IsLaidFor, IsShallow};
-ghost use Rattle.plan_choice.specs.inside.Tried.{IsCopied, IsShallowFor};
+ghost use Rattle.plan_choice.specs.inside.Tried.{HasSmallDepth, IsCopied, IsShallowFor};
 
 use crate::laying::{Tried, lay_narrow};
 use circuit_plans::{Budget, Laid, PlanFault};
@@ -39,10 +37,19 @@ pub fn or_copied(alloc: Global, graph: &Settled, budget: &Budget, tried: Tried) 
     }
 }
 
+// Whether a plan was laid that keeps the law of depth.
+pub fn keeps_law(alloc: Global, graph: &Settled, tried: &Tried) -> Result<bool, Memory>
+    ensures { IfOk result (λ small. IsTrue small → IfOk tried.now (HasSmallDepth graph.now)) }
+{
+    match tried {
+        Ok(laid) => is_small(alloc, graph, laid),
+        Err(_) => Ok(false),
+    }
+}
+
 // Whether the Toffoli depth is at most twice the AND depth.
-pub fn is_small(alloc: Global, graph: &Settled, laid: &Laid) -> Result<bool, Memory>
-    ensures { IfOk result (λ small. IsTrue small
-        → toffoli_depth_of laid.now.circuit.gates ≤ 2 * and_depth graph.now.nodes) }
+fn is_small(alloc: Global, graph: &Settled, laid: &Laid) -> Result<bool, Memory>
+    ensures { IfOk result (λ small. IsTrue small → HasSmallDepth graph.now laid.now) }
 {
     let depth = laid.circuit().toffoli_depth()?;
     let most = 2 * u64::from(and_depth(alloc, graph)?);

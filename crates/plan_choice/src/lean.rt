@@ -8,17 +8,18 @@ ghost use Rattle.plan_choice.specs.inside.Tried.{IsRow, IsWithin};
 ghost use Rattle.sum_graph.specs.Graphs.{IsLeanOf, first_work, sum_outputs};
 ghost use Rattle.sum_toggles.specs.Toggles.{toggle_weight};
 
-use crate::fewer::{FewerPlanner, plan_fewer};
 use crate::laying::{Tried, lay_narrow};
-use crate::scripts::follow_moves;
-use crate::singles::{Planner, plan_single};
+use crate::planners::{Planner, plan_over};
+use crate::singles::plan_single;
 use bit_sums::Sum;
 use circuit_plans::{Budget, Laid, PlanFault, Planned, Size, Start};
 use claim_check::Settled;
-use plan_tools::Limits;
 use std::alloc::Global;
 use sum_graph::SumGraph;
 use sum_toggles::weight_within;
+
+// How many bits a sum that is no node of its graph has at most where states are asked.
+const STATE_BITS: usize = 1;
 
 // The best plan of a lean graph: that of its row, or one that a planner finds, where the output
 // lines may hold what `start` says. States come first, and the other planners leave out what has
@@ -39,18 +40,13 @@ pub fn lay_lean(
 {
     let row = lay_row(alloc, lean, budget);
     let most = most_of(lean, budget, start, &row);
-    let states = plan_single(alloc, graph, budget, start, Planner::State)?;
-    let limits = limits_of(budget);
+    let states = plan_single(alloc, graph, STATE_BITS, budget, start, Planner::State)?;
     let toffoli = most.toffoli_with(budget, &states);
-    let homes = home_plans::plan(alloc, lean, limits, start == Start::Zero, toffoli);
-    let found = follow_moves(alloc, lean, budget, start, homes)?;
-    let best = or_better(alloc, lean, budget, start, most, row, found);
-    if start == Start::Any {
-        return or_fewer(alloc, lean, fewer, budget, start, most, best);
-    }
-    let spans = span_plans::plan(alloc, lean, limits, least_toffoli(&best, toffoli));
-    let found = follow_moves(alloc, lean, budget, start, spans)?;
-    let best = or_better(alloc, lean, budget, start, most, best, found);
+    let homes = plan_over(alloc, lean, budget, start, Planner::Homes { toffoli })?;
+    let best = or_better(alloc, lean, budget, start, most, row, homes);
+    let toffoli = least_toffoli(&best, toffoli);
+    let spans = plan_over(alloc, lean, budget, start, Planner::Spans { toffoli })?;
+    let best = or_better(alloc, lean, budget, start, most, best, spans);
     let best = or_better(alloc, lean, budget, start, most, best, states);
     or_fewer(alloc, lean, fewer, budget, start, most, best)
 }
@@ -77,25 +73,11 @@ fn or_fewer(
         return tried;
     };
     let toffoli = least_toffoli(&tried, most.toffoli);
-    let planner = FewerPlanner::Homes { toffoli };
-    let homes = plan_fewer(alloc, lean, fewer, budget, start, planner)?;
+    let homes = plan_over(alloc, fewer, budget, start, Planner::Homes { toffoli })?;
     let best = or_better(alloc, lean, budget, start, most, tried, homes);
-    if start == Start::Any {
-        return best;
-    }
     let toffoli = least_toffoli(&best, toffoli);
-    let planner = FewerPlanner::Spans { toffoli };
-    let spans = plan_fewer(alloc, lean, fewer, budget, start, planner)?;
+    let spans = plan_over(alloc, fewer, budget, start, Planner::Spans { toffoli })?;
     or_better(alloc, lean, budget, start, most, best, spans)
-}
-
-// The budget as planners take it.
-pub fn limits_of(budget: &Budget) -> Limits {
-    Limits {
-        lines: budget.lines(),
-        gates: budget.gates(),
-        borrow: budget.borrow(),
-    }
 }
 
 // ---- the row

@@ -6,6 +6,7 @@ mod copied;
 mod fewer;
 mod laying;
 mod lean;
+mod planners;
 mod scripts;
 mod search;
 mod shallow;

@@ -9,9 +9,10 @@ ghost use Rattle.flip_orders.specs.Orders.{IsReorderedPlan};
 ghost use Rattle.plan_choice.specs.Choices.{IsChoiceFault};
 ghost use Rattle.plan_choice.specs.inside.Tried.{HasOutputsOf, IsShallowFor};
 
-use crate::copied::is_small;
 use crate::laying::{Tried, lay_narrow};
-use crate::singles::{Planner, plan_single, plan_single_of};
+use crate::planners::Planner;
+use crate::singles::{plan_single, plan_single_of};
+use bit_sums::MOST_FACTOR_BITS;
 use circuit_plans::{Budget, Laid, PlanFault, Planned, Start};
 use claim_check::Settled;
 use flip_orders::{Goal, with_best_order};
@@ -19,6 +20,9 @@ use mct_circuit::Circuit;
 use revc_base::Memory;
 use std::alloc::Global;
 use sum_graph::SumGraph;
+
+// How many bits a sum that is no node of its graph has at most where layers are asked first.
+const SHORT_BITS: usize = 2;
 
 // The plan that was tried, with its gates in the best order, or one of small Toffoli depth that a
 // planner finds over the lean graph or the one with fewer products, where that is better by depth
@@ -37,7 +41,14 @@ pub fn or_shallower(
     ensures ok { IfOk result (IsShallowFor graph.now budget.now) }
     ensures refused { IfErr result (IsChoiceFault Shallow graph.now budget.now) }
 {
-    let planned = plan_single(alloc, graph, budget, Start::Any, Planner::Layers)?;
+    let planned = plan_single(
+        alloc,
+        graph,
+        SHORT_BITS,
+        budget,
+        Start::Any,
+        Planner::Layers,
+    )?;
     let best = or_laid(alloc, graph, budget, tried, planned);
     let Some(fewer) = fewer else {
         return best;
@@ -46,9 +57,8 @@ pub fn or_shallower(
     or_laid(alloc, graph, budget, best, planned)
 }
 
-// The plan that was tried, or one that the planner finds over a graph of longer sums, where that is
-// better by depth or no plan was laid. It is asked only where too few lines kept the depth above
-// twice the AND depth.
+// The plan that was tried, or one that the planner finds over a graph of longer sums, which takes
+// fewer lines, where that is better by depth or no plan was laid.
 pub fn or_of_longer_sums(alloc: Global, graph: &Settled, budget: &Budget, tried: Tried) -> Tried
     requires ports { HasPortLines (ports_of graph.now) budget.now }
     requires ok { IfOk tried (IsShallowFor graph.now budget.now) }
@@ -56,14 +66,8 @@ pub fn or_of_longer_sums(alloc: Global, graph: &Settled, budget: &Budget, tried:
     ensures ok { IfOk result (IsShallowFor graph.now budget.now) }
     ensures refused { IfErr result (IsChoiceFault Shallow graph.now budget.now) }
 {
-    let is_least = match &tried {
-        Ok(laid) => is_small(alloc, graph, laid)?,
-        Err(_) => false,
-    };
-    if is_least {
-        return tried;
-    }
-    let planned = plan_single(alloc, graph, budget, Start::Any, Planner::LongLayers)?;
+    let (bits, layers) = (MOST_FACTOR_BITS, Planner::Layers);
+    let planned = plan_single(alloc, graph, bits, budget, Start::Any, layers)?;
     or_laid(alloc, graph, budget, tried, planned)
 }
 

@@ -86,10 +86,14 @@ pub record IsShallowFor (s : SettledView) (b : BudgetView) (laid : LaidView) : T
   pub laid_for : IsLaidFor Any s b laid
   pub narrow : AreNarrow laid.circuit.gates
 
--- one of a Toffoli depth that is at most twice the AND depth
+-- its Toffoli depth is at most twice the AND depth
+abbrev pub HasSmallDepth : SettledView → LaidView → Type 0
+HasSmallDepth s laid = toffoli_depth_of laid.circuit.gates ≤ 2 * and_depth s.nodes
+
+-- a plan of the settled graph, of narrow gates, of small Toffoli depth
 pub record IsCopied (s : SettledView) (b : BudgetView) (laid : LaidView) : Type 0 where
   pub is : IsShallowFor s b laid
-  pub depth : toffoli_depth_of laid.circuit.gates ≤ 2 * and_depth s.nodes
+  pub depth : HasSmallDepth s laid
 
 -- ---- plans of a lean graph
 

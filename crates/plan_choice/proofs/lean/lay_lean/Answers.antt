@@ -1,6 +1,8 @@
+use Rattle.std.proofs.Common.{sym}
 use Rattle.std.proofs.lemmas.Result.{IfOk-weaker}
 use Rattle.plan_choice.specs.inside.Tried.{IsLaidLean, IsRow}
-use Rattle.plan_choice.proofs.LeanLemmas.{any_start, lean_found}
+use Rattle.plan_choice.proofs.LeanLemmas.{any_start}
+use Rattle.plan_choice.proofs.SameLemmas.{same_found}
 use Rattle.plan_choice.proofs.lean.lay_lean.Goals as goal
 
 pub or_better-best-requires-clause-ok : goal.or_better-best-requires-clause-ok
@@ -10,4 +12,6 @@ or_better-best-requires-clause-ok c =
 
 pub or_better-best-requires-3-clause-found : goal.or_better-best-requires-3-clause-found
 or_better-best-requires-3-clause-found c =
-    lean_found c.args.graph.now c.args.lean.now c.args.budget.now c.requires.lean c.args.start c.in_ok-states.states c.in_ok-states.ensures
+    let is = c.requires.lean in
+    same_found (sym is.inputs) (sym is.outputs) (λ input. sym (is.values input)) c.args.start c.args.budget.now c.in_ok-states.states
+    c.in_ok-states.ensures
