@@ -2,7 +2,6 @@
 use Rattle.std.proofs.Common.{◌≡◌, ℕ, ◌+◌, ◌<◌, ◌≤◌, Bool, true, false, ◌&&◌, List, [], ◌∷◌, ◌++◌, length, map, take, slice_get}
 use Rattle.std.proofs.Common.{IfOk, IfSome, Option, None, Some, Result, Ok, Err, refl, sym, ap, ap₂, ◌∙◌, subst, arith}
 use Rattle.std.specs.Bool.{xor}
-use Rattle.std.specs.List.{AllByRecursion}
 use Rattle.std.proofs.lemmas.Bool.{lt-ltb, ltb-true}
 use Rattle.std.proofs.lemmas.List.{get_or-take, map-append, take_all}
 use Rattle.std.proofs.lemmas.Option.{get_or_from_slice_get, slice_get_within}
@@ -13,20 +12,20 @@ use Rattle.dependency_graph.specs.declared.node.Base.{Base}
 use Rattle.dependency_graph.specs.declared.node.Base.TheVariants as bases
 use Rattle.dependency_graph.specs.Graphs.{base_bit}
 use Rattle.dependency_graph.proofs.MadeLemmas.{bits_made-append}
-use Rattle.bit_sums.specs.Sums.{AreAll, IsProductOver, ProductView, SumView, product_value, sum_value, xor_by}
+use Rattle.bit_sums.specs.Sums.{AreAll, IsProductOver, ProductView, SumView, product_value, xor_by}
 use Rattle.bit_sums.proofs.SetLemmas.{value-append}
 use Rattle.linear_forms.specs.Forms.{FormView, IsConstant, IsSum, form_value}
 use Rattle.product_sums.specs.Products.{Extends, IsDetermined, IsProduct, ProductsView}
 use Rattle.product_sums.proofs.TableLemmas.{determined_constant, determined_later, determined_sum, respects_before}
 use Rattle.claim_check.specs.Settled.{SettledView, settled_outputs}
 use Rattle.few_products.specs.Fewer.{IsFewerOf}
-use Rattle.sum_graph.specs.Graphs.{IsKnownSum, IsLeanOf, IsSumGraph, SumGraphView, is_known, sum_bit, sum_on, sum_outputs, sums_made}
+use Rattle.sum_graph.specs.Graphs.{IsKnownSum, IsLeanOf, IsSumGraph, SumGraphView, is_known, sum_bit, sum_on, sums_made}
 use Rattle.sum_graph.proofs.SumNodeLemmas.{known_further, sum_same}
 use Rattle.sum_graph.proofs.WalkLemmas.{take_next}
 use Rattle.circuit_verify.specs.Compared.{ComparedView, IsReady, comparison}
 use Rattle.circuit_verify.specs.Comparisons.{input_bits, inputs_in, start_on}
 use Rattle.circuit_verify.proofs.AskLemmas.{input_bit}
-use Rattle.sum_verify.specs.inside.Forms.{AreDetermined, AreFormsOf, IsFormOf, IsUnder, form_at}
+use Rattle.sum_verify.specs.inside.Forms.{AreDetermined, AreFormsOf, IsFormOf, IsUnder}
 use Rattle.sum_verify.specs.inside.Rewritten.{AreNodesOf, HasOutputsOf, IsHeldBits, IsHeldPart, IsHeldProduct, IsHeldSum, bits_of_nodes, held_bit, held_form}
 use Rattle.sum_verify.proofs.FormLemmas.{form_in, forms_later, forms_push, forms_same, under_before}
 

@@ -1,13 +1,12 @@
 // What the forms of the lines say of a circuit.
-ghost use Rattle.std.specs.Prelude.{◌≡◌, ◌<◌, length, true, IfOk, OnOk};
+ghost use Rattle.std.specs.Prelude.{◌≡◌, ◌<◌, IfOk, OnOk};
 ghost use Rattle.list_facts.specs.Bits.{bit_of};
-ghost use Rattle.claim_check.specs.Settled.{settled_outputs};
-ghost use Rattle.mct_circuit.specs.Gates.{line_map};
 ghost use Rattle.circuit_verify.specs.Compared.{comparison};
-ghost use Rattle.circuit_verify.specs.Comparisons.{IsAdded, input_bits, start_on, wanted_on};
+ghost use Rattle.circuit_verify.specs.Comparisons.{IsAdded, wanted_on};
 ghost use Rattle.circuit_plans.specs.declared.roles.Placing.TheVariants.{InPlace};
 ghost use Rattle.circuit_verify.specs.Verdicts.{IsVerified};
-ghost use Rattle.sum_verify.specs.inside.Forms.{AreFormsOf, HasVariables, IsFormOf};
+ghost use Rattle.sum_verify.specs.inside.Forms.{AreFormsBehind, AreOutputForms};
+ghost use Rattle.sum_verify.specs.inside.Forms.{HasVariables, IsFormOf};
 
 use crate::fault::FormsFault;
 use crate::start::start_form;
@@ -26,9 +25,7 @@ fn wanted_form(
     line: u32,
 ) -> Result<Form, FormsFault>
     requires line { line < compared.now.circuit.lines }
-    requires outputs { AreFormsOf (comparison compared.now) products.old
-        (length compared.now.graph.outputs) outputs.now (λ bits. settled_outputs compared.now.graph
-        (input_bits (comparison compared.now) bits)) }
+    requires outputs { AreOutputForms compared.now products.old outputs.now }
     ensures same { products.new ≡ products.old }
     ensures wanted { IfOk result (λ form. IsFormOf (comparison compared.now) products.old form
         (λ bits. bit_of (wanted_on (comparison compared.now) bits) line)) }
@@ -50,9 +47,7 @@ fn added_form(
 ) -> Result<Form, FormsFault>
     requires placing { IsAdded compared.now.placing }
     requires line { line < compared.now.circuit.lines }
-    requires outputs { AreFormsOf (comparison compared.now) products.old
-        (length compared.now.graph.outputs) outputs.now (λ bits. settled_outputs compared.now.graph
-        (input_bits (comparison compared.now) bits)) }
+    requires outputs { AreOutputForms compared.now products.old outputs.now }
     ensures same { products.new ≡ products.old }
     ensures wanted { IfOk result (λ form. IsFormOf (comparison compared.now) products.old form
         (λ bits. bit_of (wanted_on (comparison compared.now) bits) line)) }
@@ -76,9 +71,7 @@ fn in_place_form(
 ) -> Result<Form, FormsFault>
     requires placing { compared.now.placing ≡ InPlace }
     requires line { line < compared.now.circuit.lines }
-    requires outputs { AreFormsOf (comparison compared.now) products.now
-        (length compared.now.graph.outputs) outputs.now (λ bits. settled_outputs compared.now.graph
-        (input_bits (comparison compared.now) bits)) }
+    requires outputs { AreOutputForms compared.now products.now outputs.now }
     ensures { IfOk result (λ form. IsFormOf (comparison compared.now) products.now form
         (λ bits. bit_of (wanted_on (comparison compared.now) bits) line)) }
 {
@@ -98,12 +91,8 @@ pub fn judge(
     lines: &[Form],
 ) -> Result<(), FormsFault>
     requires variables { HasVariables (comparison compared.now) products.old }
-    requires outputs { AreFormsOf (comparison compared.now) products.old
-        (length compared.now.graph.outputs) outputs.now (λ bits. settled_outputs compared.now.graph
-        (input_bits (comparison compared.now) bits)) }
-    requires lines { AreFormsOf (comparison compared.now) products.old compared.now.circuit.lines
-        lines.now (λ bits. line_map compared.now.circuit.gates
-        (start_on (comparison compared.now) bits)) }
+    requires outputs { AreOutputForms compared.now products.old outputs.now }
+    requires lines { AreFormsBehind compared.now products.old lines.now }
     ensures { OnOk result (IsVerified (comparison compared.now)) }
 {
     let _ = compared.variables(); // shows what is known of both

@@ -4,8 +4,7 @@ ghost use Rattle.std.specs.List.{AllByRecursion};
 ghost use Rattle.dependency_graph.specs.Graphs.{IsKnownBase, IsKnownNode, operands};
 ghost use Rattle.product_sums.specs.Products.{Extends};
 ghost use Rattle.circuit_verify.specs.Compared.{comparison};
-ghost use Rattle.circuit_verify.specs.Comparisons.{start_on};
-ghost use Rattle.sum_verify.specs.inside.Forms.{AreFormsOf, HasVariables};
+ghost use Rattle.sum_verify.specs.inside.Forms.{AreFormsBefore, HasVariables};
 ghost use Rattle.sum_verify.specs.inside.Nodes.{AreDeterminedBases, HoldsNodes, IsNodeForm};
 ghost use Rattle.sum_verify.specs.inside.Nodes.{KeepsForms, base_form};
 
@@ -126,8 +125,7 @@ fn add_node(
 ) -> Result<(), FormsFault>
     requires inside { k < length compared.now.graph.nodes }
     requires variables { HasVariables (comparison compared.now) products.old }
-    requires lines { AreFormsOf (comparison compared.now) products.old compared.now.circuit.lines
-        lines.now (start_on (comparison compared.now)) }
+    requires lines { AreFormsBefore compared.now products.old lines.now }
     requires nodes { HoldsNodes compared.now products.old k nodes.old.items }
     ensures extends { OnOk result (Extends products.old products.new) }
     ensures nodes { OnOk result (HoldsNodes compared.now products.new (k + 1) nodes.new.items) }
@@ -149,8 +147,7 @@ pub fn node_forms(
     lines: &[Form],
 ) -> Result<Vec<Option<Form>>, FormsFault>
     requires variables { HasVariables (comparison compared.now) products.old }
-    requires lines { AreFormsOf (comparison compared.now) products.old compared.now.circuit.lines
-        lines.now (start_on (comparison compared.now)) }
+    requires lines { AreFormsBefore compared.now products.old lines.now }
     ensures extends { OnOk result (Extends products.old products.new) }
     ensures nodes { IfOk result (λ nodes. HoldsNodes compared.now products.new
         (length compared.now.graph.nodes) nodes.items) }

@@ -1,11 +1,9 @@
 // The forms of the outputs.
-ghost use Rattle.std.specs.Prelude.{◌≡◌, length, IfOk, OnOk};
+ghost use Rattle.std.specs.Prelude.{length, IfOk, OnOk};
 ghost use Rattle.dependency_graph.specs.Graphs.{IsKnownSig};
-ghost use Rattle.claim_check.specs.Settled.{settled_outputs};
 ghost use Rattle.product_sums.specs.Products.{Extends};
 ghost use Rattle.circuit_verify.specs.Compared.{comparison};
-ghost use Rattle.circuit_verify.specs.Comparisons.{input_bits, start_on};
-ghost use Rattle.sum_verify.specs.inside.Forms.{AreFormsOf, HasVariables};
+ghost use Rattle.sum_verify.specs.inside.Forms.{AreFormsBefore, AreOutputForms, HasVariables};
 ghost use Rattle.sum_verify.specs.inside.Nodes.{IsSigForm};
 
 use crate::fault::FormsFault;
@@ -43,13 +41,10 @@ pub fn output_forms(
     lines: &[Form],
 ) -> Result<Vec<Form>, FormsFault>
     requires variables { HasVariables (comparison compared.now) products.old }
-    requires lines { AreFormsOf (comparison compared.now) products.old compared.now.circuit.lines
-        lines.now (start_on (comparison compared.now)) }
+    requires lines { AreFormsBefore compared.now products.old lines.now }
     ensures extends { OnOk result (Extends products.old products.new) }
-    ensures outputs { IfOk result (λ outputs. AreFormsOf (comparison compared.now) products.new
-        (length compared.now.graph.outputs) outputs.items
-        (λ bits. settled_outputs compared.now.graph
-        (input_bits (comparison compared.now) bits))) }
+    ensures outputs { IfOk result
+        (λ outputs. AreOutputForms compared.now products.new outputs.items) }
 {
     let _ = compared.variables(); // shows what is known of both
     let nodes = node_forms(alloc, products, compared, lines)?;

@@ -1,12 +1,11 @@
 // The forms of the outputs by a graph of sums with fewer products.
 ghost use Rattle.std.specs.Prelude.{◌≡◌, length, true, IfOk, IfSome, OnOk};
 ghost use Rattle.bit_sums.specs.Sums.{AreAll, IsProductOver};
-ghost use Rattle.claim_check.specs.Settled.{settled_outputs};
 ghost use Rattle.product_sums.specs.Products.{Extends};
 ghost use Rattle.sum_graph.specs.Graphs.{IsKnownSum, is_known};
 ghost use Rattle.circuit_verify.specs.Compared.{comparison};
-ghost use Rattle.circuit_verify.specs.Comparisons.{input_bits, start_on};
-ghost use Rattle.sum_verify.specs.inside.Forms.{AreDetermined, AreFormsOf, HasVariables};
+ghost use Rattle.sum_verify.specs.inside.Forms.{AreDetermined, AreFormsBefore};
+ghost use Rattle.sum_verify.specs.inside.Forms.{AreOutputForms, HasVariables};
 ghost use Rattle.sum_verify.specs.inside.Rewritten.{AreNodesOf, HasOutputsOf, IsHeldBits};
 ghost use Rattle.sum_verify.specs.inside.Rewritten.{IsHeldProduct, IsHeldSum, held_form};
 
@@ -41,41 +40,19 @@ pub fn output_forms_by(
     graph: Option<&SumGraph>,
 ) -> Result<Vec<Form>, FormsFault>
     requires variables { HasVariables (comparison compared.now) products.old }
-    requires lines { AreFormsOf (comparison compared.now) products.old compared.now.circuit.lines
-        lines.now (start_on (comparison compared.now)) }
+    requires lines { AreFormsBefore compared.now products.old lines.now }
     requires graph { IfSome graph (λ graph. HasOutputsOf compared.now.graph graph.now) }
     ensures extends { OnOk result (Extends products.old products.new) }
-    ensures outputs { IfOk result (λ outputs. AreFormsOf (comparison compared.now) products.new
-        (length compared.now.graph.outputs) outputs.items
-        (λ bits. settled_outputs compared.now.graph
-        (input_bits (comparison compared.now) bits))) }
+    ensures outputs { IfOk result
+        (λ outputs. AreOutputForms compared.now products.new outputs.items) }
 {
     match graph {
-        Some(graph) => forms_of_sums(alloc, products, compared, lines, graph),
+        Some(graph) => {
+            let nodes = forms_of_nodes(alloc, products, compared, lines, graph)?;
+            forms_of_outputs(alloc, products, compared, lines, &nodes, graph)
+        }
         None => output_forms(alloc, products, compared, lines),
     }
-}
-
-// The form of each output, by the sums of such a graph.
-fn forms_of_sums(
-    alloc: Global,
-    products: &mut Sweep,
-    compared: &Compared,
-    lines: &[Form],
-    graph: &SumGraph,
-) -> Result<Vec<Form>, FormsFault>
-    requires variables { HasVariables (comparison compared.now) products.old }
-    requires lines { AreFormsOf (comparison compared.now) products.old compared.now.circuit.lines
-        lines.now (start_on (comparison compared.now)) }
-    requires graph { HasOutputsOf compared.now.graph graph.now }
-    ensures extends { OnOk result (Extends products.old products.new) }
-    ensures outputs { IfOk result (λ outputs. AreFormsOf (comparison compared.now) products.new
-        (length compared.now.graph.outputs) outputs.items
-        (λ bits. settled_outputs compared.now.graph
-        (input_bits (comparison compared.now) bits))) }
-{
-    let nodes = forms_of_nodes(alloc, products, compared, lines, graph)?;
-    forms_of_outputs(alloc, products, compared, lines, &nodes, graph)
 }
 
 // The form of each node.
@@ -87,8 +64,7 @@ fn forms_of_nodes(
     graph: &SumGraph,
 ) -> Result<Vec<Form>, FormsFault>
     requires variables { HasVariables (comparison compared.now) products.old }
-    requires lines { AreFormsOf (comparison compared.now) products.old compared.now.circuit.lines
-        lines.now (start_on (comparison compared.now)) }
+    requires lines { AreFormsBefore compared.now products.old lines.now }
     requires graph { HasOutputsOf compared.now.graph graph.now }
     ensures extends { OnOk result (Extends products.old products.new) }
     ensures nodes { IfOk result (λ nodes. AreNodesOf compared.now products.new
@@ -115,16 +91,13 @@ fn forms_of_outputs(
     graph: &SumGraph,
 ) -> Result<Vec<Form>, FormsFault>
     requires variables { HasVariables (comparison compared.now) products.old }
-    requires lines { AreFormsOf (comparison compared.now) products.old compared.now.circuit.lines
-        lines.now (start_on (comparison compared.now)) }
+    requires lines { AreFormsBefore compared.now products.old lines.now }
     requires nodes { AreNodesOf compared.now products.old (length graph.now.nodes) graph.now.nodes
         nodes.now }
     requires graph { HasOutputsOf compared.now.graph graph.now }
     ensures extends { OnOk result (Extends products.old products.new) }
-    ensures outputs { IfOk result (λ outputs. AreFormsOf (comparison compared.now) products.new
-        (length compared.now.graph.outputs) outputs.items
-        (λ bits. settled_outputs compared.now.graph
-        (input_bits (comparison compared.now) bits))) }
+    ensures outputs { IfOk result
+        (λ outputs. AreOutputForms compared.now products.new outputs.items) }
 {
     let _ = compared.variables(); // shows what is known of both
     let mut outputs = Vec::new(alloc);

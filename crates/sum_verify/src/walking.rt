@@ -1,11 +1,11 @@
 // The forms of the lines, gate by gate.
 ghost use Rattle.std.specs.Prelude.{◌≡◌, ◌<◌, length, IfOk, OnOk};
 ghost use Rattle.mct_circuit.specs.declared.gate.Op.TheVariants.{Flip};
-ghost use Rattle.mct_circuit.specs.Gates.{IsGateOn, IsNarrow, line_map};
+ghost use Rattle.mct_circuit.specs.Gates.{IsGateOn, IsNarrow};
 ghost use Rattle.product_sums.specs.Products.{Extends};
 ghost use Rattle.circuit_verify.specs.Compared.{comparison};
-ghost use Rattle.circuit_verify.specs.Comparisons.{start_on};
-ghost use Rattle.sum_verify.specs.inside.Forms.{AreDetermined, AreFormsOf, HasVariables};
+ghost use Rattle.sum_verify.specs.inside.Forms.{AreDetermined, AreFormsBefore};
+ghost use Rattle.sum_verify.specs.inside.Forms.{AreFormsBehind, HasVariables};
 ghost use Rattle.sum_verify.specs.inside.Forms.{IsFlipped};
 
 use circuit_verify::{Compared, target_of};
@@ -47,12 +47,9 @@ pub fn walk(
     lines: &mut [Form],
 ) -> Result<(), ProductsFault>
     requires variables { HasVariables (comparison compared.now) products.old }
-    requires start { AreFormsOf (comparison compared.now) products.old compared.now.circuit.lines
-        lines.old (start_on (comparison compared.now)) }
+    requires start { AreFormsBefore compared.now products.old lines.old }
     ensures extends { OnOk result (Extends products.old products.new) }
-    ensures ends { OnOk result (AreFormsOf (comparison compared.now) products.new
-        compared.now.circuit.lines lines.new (λ bits. line_map compared.now.circuit.gates
-        (start_on (comparison compared.now) bits))) }
+    ensures ends { OnOk result (AreFormsBehind compared.now products.new lines.new) }
 {
     let _ = compared.variables(); // shows what is known of both
     for gate in compared.circuit.gates() {

@@ -4,8 +4,10 @@ use Rattle.list_facts.specs.Bits.{bit_of}
 use Rattle.linear_forms.specs.Bases.{no_form}
 use Rattle.linear_forms.specs.Forms.{FormView, form_value}
 use Rattle.product_sums.specs.Products.{IsDetermined, ProductsView, Respects}
-use Rattle.mct_circuit.specs.Gates.{GateView, after_gate}
-use Rattle.circuit_verify.specs.Comparisons.{AreBitsFor, Comparison, start_on, variables_in}
+use Rattle.claim_check.specs.Settled.{settled_outputs}
+use Rattle.mct_circuit.specs.Gates.{GateView, after_gate, line_map}
+use Rattle.circuit_verify.specs.Compared.{ComparedView, comparison}
+use Rattle.circuit_verify.specs.Comparisons.{AreBitsFor, Comparison, input_bits, start_on, variables_in}
 
 -- ---- valuations
 
@@ -38,6 +40,22 @@ pub record AreFormsOf (q : Comparison) (t : ProductsView) (count : ℕ) (forms :
   pub one_each : length forms ≡ count
   pub same : (bits : List Bool) (atom : ℕ → Bool) → IsUnder q t bits atom
       → map (form_value atom) forms ≡ value bits
+
+-- the forms of the lines before the gates, and behind them
+abbrev pub AreFormsBefore : ComparedView → ProductsView → List FormView → Type 0
+AreFormsBefore v t lines =
+    AreFormsOf (comparison v) t v.circuit.lines lines (start_on (comparison v))
+
+abbrev pub AreFormsBehind : ComparedView → ProductsView → List FormView → Type 0
+AreFormsBehind v t lines =
+    AreFormsOf (comparison v) t v.circuit.lines lines
+    (λ bits. line_map v.circuit.gates (start_on (comparison v) bits))
+
+-- the forms of the outputs of the settled graph
+abbrev pub AreOutputForms : ComparedView → ProductsView → List FormView → Type 0
+AreOutputForms v t outputs =
+    AreFormsOf (comparison v) t (length v.graph.outputs) outputs
+    (λ bits. settled_outputs v.graph (input_bits (comparison v) bits))
 
 abbrev pub form_at : List FormView → ℕ → FormView
 form_at forms i = slice_index_or forms i no_form

@@ -2,7 +2,6 @@ use Rattle.std.proofs.Common.{◌≡◌, ◌+◌, List, Some, ap, arith, length,
 use Rattle.std.proofs.lemmas.Option.{slice_get_read}
 use Rattle.bit_sums.specs.Sums.{SumView}
 use Rattle.linear_forms.specs.Forms.{FormView}
-use Rattle.product_sums.specs.Products.{Extends}
 use Rattle.product_sums.proofs.TableLemmas.{extends_further, extends_same}
 use Rattle.circuit_verify.specs.Compared.{comparison}
 use Rattle.circuit_verify.specs.Comparisons.{start_on}

@@ -1,11 +1,9 @@
 use Rattle.std.proofs.Common.{◌≡◌, ◌+◌, List, Some, ap, length, refl, slice_get, sym, subst, ◌∙◌}
-use Rattle.std.proofs.lemmas.Option.{get_or_from_slice_get, slice_get_read, slice_get_within}
-use Rattle.list_facts.proofs.AllLemmas.{AllByRecursion-at}
-use Rattle.bit_sums.specs.Sums.{IsProductOver, ProductView}
+use Rattle.std.proofs.lemmas.Option.{slice_get_read}
+use Rattle.bit_sums.specs.Sums.{ProductView}
 use Rattle.product_sums.specs.Products.{Extends, ProductsView}
 use Rattle.sum_verify.specs.inside.Rewritten.{IsHeldPart}
 use Rattle.product_sums.proofs.TableLemmas.{determined_later, extends_equal, extends_further}
-use Rattle.sum_graph.specs.Graphs.{is_known}
 use Rattle.sum_verify.proofs.RewrittenLemmas.{part_begun, part_done, part_next}
 use Rattle.sum_verify.proofs.rewritten.sum_form.Goals as goal
 use Rattle.sum_verify.proofs.rewritten.sum_form.Goals.{After-product-item}
