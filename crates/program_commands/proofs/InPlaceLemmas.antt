@@ -5,9 +5,9 @@ use Rattle.circuit_plans.specs.declared.roles.Roles.{Roles}
 use Rattle.circuit_plans.specs.Plans.{LaidView, roles_of}
 use Rattle.command_answers.specs.declared.fault.Fault.{Fault}
 use Rattle.command_answers.specs.declared.fault.Fault.TheVariants as faults
-use Rattle.command_answers.specs.declared.fault.Refusal.TheVariants as refusals
 use Rattle.program_texts.proofs.CleanLemmas.{clean_circuit}
 use Rattle.program_texts.proofs.FormedLemmas.{some_output}
+use Rattle.program_texts.proofs.TextLemmas.{stops_settling}
 use Rattle.program_texts.specs.Clean.{IsCleanCircuit}
 use Rattle.program_texts.specs.Outcomes.{IsSettlingFault, IsTextFault}
 use Rattle.revc_words.specs.Words.{IsWithinLimits, OrderView}
@@ -57,16 +57,13 @@ placed_file order text tape laid limits placed =
 
 -- ---- the faults
 
--- what refuses a text stops the file
-pub text_stops : (order : OrderView) (text : List ℕ) (fault : Fault) → IsTextFault text fault → IsInPlaceFault order text fault
-text_stops order text (faults.Refused (refusals.At kind at)) h = h
-text_stops order text (faults.Refused refusals.TooLong) h = absurd h
-text_stops order text (faults.Memory _) h = tt
-text_stops order text fault h = absurd h
-
--- and so does what stops the claims
+-- what stops the claims stops the file
 pub claims_stop : (order : OrderView) (text : List ℕ) (fault : Fault) → IsSettlingFault text order.assume order.nodes fault → IsInPlaceFault order text fault
 claims_stop order text (faults.Memory _) h = tt
 claims_stop order text (faults.FewOutputs inputs outputs) h = absurd h
 claims_stop order text faults.NoCircuit h = absurd h
 claims_stop order text fault h = h
+
+-- and so does what refuses a text
+pub text_stops : (order : OrderView) (text : List ℕ) (fault : Fault) → IsTextFault text fault → IsInPlaceFault order text fault
+text_stops order text fault h = claims_stop order text fault (stops_settling text order.assume order.nodes fault h)

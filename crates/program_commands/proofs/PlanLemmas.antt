@@ -34,13 +34,13 @@ use Rattle.revs_terms.specs.Views.{ProgramView}
 use Rattle.revs_terms.proofs.TapeLemmas.{tape_gives_output}
 use Rattle.command_answers.specs.declared.fault.Fault.{Fault}
 use Rattle.command_answers.specs.declared.fault.Fault.TheVariants as faults
-use Rattle.command_answers.specs.declared.fault.Refusal.TheVariants as refusals
 use Rattle.program_texts.specs.Clean.{AddsOn}
 use Rattle.program_commands.specs.Clean.{MeansCompiledIn}
 use Rattle.program_commands.specs.Compile.{AreWrittenFor, HasFewToffoliGates, HasLeanSize, HasSmallDepth, IsCompiled, LeanRowFits, ShallowRowFits, budget_of, least_lines, row_gates, row_lines}
 use Rattle.program_texts.specs.Settling.{LeavesTape, LeavesSettled, ForTexts, IsSettledWithin}
 use Rattle.program_commands.specs.inside.Plans.{IsCleanPlan, IsPlanOf, IsPlannedFor, IsPlanningFault}
 use Rattle.program_texts.proofs.FormedLemmas.{some_output}
+use Rattle.program_texts.proofs.TextLemmas.{stops_settling}
 
 -- ---- the plan of the graph
 
@@ -264,19 +264,16 @@ planning_fault order text tape s (faults.Gates limit) l is no_larger h =
 planning_fault order text tape s (faults.Memory _) l is no_larger h = tt
 planning_fault order text tape s fault l is no_larger h = absurd h
 
--- what refuses a text stops the file
-pub stops_compile : (order : OrderView) (text : List ℕ) (fault : Fault) → IsTextFault text fault → IsCompileFault order text fault
-stops_compile order text (faults.Refused (refusals.At kind at)) h = h
-stops_compile order text (faults.Refused refusals.TooLong) h = absurd h
-stops_compile order text (faults.Memory _) h = tt
-stops_compile order text fault h = absurd h
-
--- and so does what stops the claims
+-- what stops the claims stops the file
 pub settling_fault : (order : OrderView) (text : List ℕ) (fault : Fault) → IsSettlingFault text order.assume order.nodes fault → IsCompileFault order text fault
 settling_fault order text (faults.Memory _) h = tt
 settling_fault order text (faults.Lines need limit) h = absurd h
 settling_fault order text (faults.Gates limit) h = absurd h
 settling_fault order text fault h = h
+
+-- and so does what refuses a text
+pub stops_compile : (order : OrderView) (text : List ℕ) (fault : Fault) → IsTextFault text fault → IsCompileFault order text fault
+stops_compile order text fault h = settling_fault order text fault (stops_settling text order.assume order.nodes fault h)
 
 pub settling_stops : (order : OrderView) (tape : TapeView) (fault : Fault) → ForTexts tape (λ text. IsSettlingFault text order.assume order.nodes fault)
     → ForTexts tape (λ text. IsCompileFault order text fault)

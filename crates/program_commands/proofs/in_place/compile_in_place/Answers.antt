@@ -16,20 +16,15 @@ returns-in_err-graph-clause-err c =
     (claims_stop (order_of c.args.order.now) c.args.text.now c.in_err-graph.field-0.0
     (c.in_err-graph.ensures.err.of_text c.args.text.now c.in_ok-tape.ensures.left))
 
-pub returns-clause-ok : goal.returns-clause-ok
-returns-clause-ok c =
+pub returns : goal.returns
+returns c =
     let order = order_of c.args.order.now in
-    IfOk-weaker c.place.result _ _
-    (λ laid placed. placed_file order c.args.text.now c.in_ok-tape.tape laid c.requires.limits (placed.of_text c.args.text.now c.in_ok-tape.ensures.left))
-    c.place.ensures.ok
-
-pub returns-clause-writable : goal.returns-clause-writable
-returns-clause-writable c =
-    let order = order_of c.args.order.now in
-    IfOk-weaker c.place.result _ _
-    (λ laid placed. placed_writable order c.args.text.now c.in_ok-tape.tape laid c.requires.limits (placed.of_text c.args.text.now c.in_ok-tape.ensures.left))
-    c.place.ensures.ok
-
-pub returns-clause-err : goal.returns-clause-err
-returns-clause-err c =
-    IfErr-weaker c.place.result _ _ (λ fault h. h.of_text c.args.text.now c.in_ok-tape.ensures.left) c.place.ensures.err
+    let text = c.args.text.now in
+    let tape = c.in_ok-tape.tape in
+    let left = c.in_ok-tape.ensures.left in
+    record {
+      ok = IfOk-weaker c.place.result _ _ (λ laid placed. placed_file order text tape laid c.requires.limits (placed.of_text text left)) c.place.ensures.ok;
+      writable = IfOk-weaker c.place.result _ _ (λ laid placed. placed_writable order text tape laid c.requires.limits (placed.of_text text left))
+          c.place.ensures.ok;
+      err = IfErr-weaker c.place.result _ _ (λ fault h. h.of_text text left) c.place.ensures.err;
+    }
