@@ -101,9 +101,7 @@ fn read_header_lines<'t>(
             Err(refusal) => return Err(refusal.at(lines.number())),
         }
     }
-    Err(RealFault::Line {
-        number: lines.number() + 1,
-    })
+    Err(lines.end_fault())
 }
 
 // ---- the gates
@@ -152,9 +150,7 @@ fn read_gates<'t>(
             Err(refusal) => return Err(refusal.at(lines.number())),
         }
     }
-    Err(RealFault::Line {
-        number: lines.number() + 1,
-    })
+    Err(lines.end_fault())
 }
 
 // A line of gates, and whether it ends them.

@@ -4,11 +4,11 @@ ghost use Rattle.std.specs.Prelude.{MatchOption, option_copied, not, min};
 ghost use Rattle.std.specs.Option.{option_map};
 ghost use Rattle.std.specs.List.{prefix_len};
 ghost use Rattle.std.specs.Char.{is_ascii_digit};
-ghost use Rattle.std.specs.Str.Parse.{AllDigits, digits_value};
 ghost use Rattle.real_format.specs.Words.{is_blank, is_comment, said_lines, said_words};
 ghost use Rattle.real_format.specs.inside.Reading.{begins_name, single, is_nil, number_of};
 ghost use Rattle.real_format.specs.inside.Lines.{TakesLine, LinesView};
 
+use crate::file::RealFault;
 use std::marker::Model;
 
 fn is_blank(byte: u8) -> bool
@@ -139,6 +139,14 @@ impl<'t> Lines<'t> {
         ensures more { self.now.number + 1 < 2 ^ 32 }
     {
         self.number
+    }
+
+    // What refuses a text that ends where another line is wanted.
+    pub fn end_fault(&self) -> RealFault
+        ensures { result ≡ RealFault.Line (self.now.number + 1) }
+    {
+        let number = self.number() + 1;
+        RealFault::Line { number }
     }
 }
 

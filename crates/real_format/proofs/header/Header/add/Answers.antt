@@ -9,23 +9,14 @@ use Rattle.real_format.specs.inside.Reading.{AddsMarks, Refuses, add_marks, cons
 use Rattle.real_format.proofs.StampLemmas.{refuses_on}
 use Rattle.real_format.proofs.header.Header.add.Goals as goal
 
-pub returns-in-Version-clause-ok : goal.returns-in-Version-clause-ok
-returns-in-Version-clause-ok c = rw c.in-Version.is c.add_version.ensures.ok
+pub returns-in-Version : goal.returns-in-Version
+returns-in-Version c = rw c.in-Version.is (record { ok = c.add_version.ensures.ok; err = c.add_version.ensures.err })
 
-pub returns-in-Version-clause-err : goal.returns-in-Version-clause-err
-returns-in-Version-clause-err c = rw c.in-Version.is c.add_version.ensures.err
+pub returns-in-Lines : goal.returns-in-Lines
+returns-in-Lines c = rw c.in-Lines.is (record { ok = c.add_lines.ensures.ok; err = c.add_lines.ensures.err })
 
-pub returns-in-Lines-clause-ok : goal.returns-in-Lines-clause-ok
-returns-in-Lines-clause-ok c = rw c.in-Lines.is c.add_lines.ensures.ok
-
-pub returns-in-Lines-clause-err : goal.returns-in-Lines-clause-err
-returns-in-Lines-clause-err c = rw c.in-Lines.is c.add_lines.ensures.err
-
-pub returns-in-Names-clause-ok : goal.returns-in-Names-clause-ok
-returns-in-Names-clause-ok c = rw c.in-Names.is c.add_names.ensures.ok
-
-pub returns-in-Names-clause-err : goal.returns-in-Names-clause-err
-returns-in-Names-clause-err c = rw c.in-Names.is c.add_names.ensures.err
+pub returns-in-Names : goal.returns-in-Names
+returns-in-Names c = rw c.in-Names.is (record { ok = c.add_names.ensures.ok; err = c.add_names.ensures.err })
 
 once_said : {T : Type 0} (r : Result T LineRefusal) (old now : Bool) (after other : HeaderView) → OnOk r ((old ≡ false) × (now ≡ true))
     → (now ≡ true → after ≡ other) → OnOk r (say_once old after ≡ Ok other)
