@@ -117,7 +117,8 @@ next_copied assignment made bits one other value bit rest are same next =
 -- a node of two operands, and those behind it
 two_alike : (assignment : ℕ → Bool) (n : ℕ) (made bits : List Bool) (op : Bool → Bool → Bool) (node : Node) (a b : Base) (rest : List Node)
     → AreCopied made bits → IsKnownBase n (length bits) a → IsKnownBase n (length bits) b → AreKnownNodes n (length bits + 1) rest
-    → ((both : List Bool) → node_bit assignment both (on_copies (3 * length bits) node) ≡ op (bit_of both (3 * length bits)) (bit_of both (3 * length bits + 1)))
+    → ((both : List Bool)
+    → node_bit assignment both (on_copies (3 * length bits) node) ≡ op (bit_of both (3 * length bits)) (bit_of both (3 * length bits + 1)))
     → ((m bs : List Bool) → AreCopied m bs → AreKnownNodes n (length bs) rest
     → AreCopied (sums_made assignment m (copied_nodes (length bs) rest)) (made_by assignment bs rest))
     → AreCopied (sums_made assignment made (copy_of a ∷ copy_of b ∷ plain_sum (on_copies (3 * length bits) node) ∷ copied_nodes (length bits + 1) rest))
