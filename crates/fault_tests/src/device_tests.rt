@@ -55,6 +55,13 @@ const PIECES: &[(usize, u64, usize)] = &[
     (4096, 4, 3),
 ];
 
+// A call: its words and its text.
+#[derive(Clone, Copy)]
+struct Call<'t> {
+    words: &'t str,
+    text: &'t [u8],
+}
+
 // The devices of a call: the numbers of the read and of the write that fail, none where they are 0;
 // the most bytes of one read and of one write; the room of standard output; the failing write of
 // standard error, and the most bytes of one.
@@ -80,12 +87,12 @@ const SOUND: Devices = Devices {
 };
 
 // What a call over these devices leaves.
-fn left_over(alloc: Global, words: &str, text: &[u8], on: Devices) -> Result<Left, Memory> {
+fn left_over(alloc: Global, call: Call<'_>, on: Devices) -> Result<Left, Memory> {
     let failing = vec![in alloc; on.failing_read]?;
-    let mut source = MemorySource::new(text.to_vec(alloc)?, failing, on.most_read.max(1));
+    let mut source = MemorySource::new(call.text.to_vec(alloc)?, failing, on.most_read.max(1));
     let mut out = sink(alloc, on.room, on.failing_write, on.most_written)?;
     let mut err = sink(alloc, 100, on.failing_err, on.most_told)?;
-    let words = words_of(alloc, words)?;
+    let words = words_of(alloc, call.words)?;
     let status = revc(alloc, &words, &mut source, &mut out, &mut err);
     left_by(alloc, status, out.bytes(), err.bytes())
 }
@@ -129,17 +136,12 @@ fn reads_of(text: &[u8], most: usize) -> u64 {
 }
 
 // Each read fails in turn: nothing is written. One number further, none does.
-fn fail_reads(
-    rt: &impl Abort,
-    alloc: Global,
-    words: &str,
-    text: &[u8],
-    on: Devices,
-) -> Result<(), Memory> {
-    let reads = reads_of(text, on.most_read);
+fn fail_reads(rt: &impl Abort, alloc: Global, call: Call<'_>, on: Devices) -> Result<(), Memory> {
+    let words = call.words;
+    let reads = reads_of(call.text, on.most_read);
     for failing_read in 1..=reads {
         let on = Devices { failing_read, ..on };
-        let left = left_over(alloc, words, text, on)?;
+        let left = left_over(alloc, call, on)?;
         assert!(rt;
             is_ended(&left, 9, b"", 0, READ_FAULT, on),
             "{words}: read {failing_read}"
@@ -149,7 +151,7 @@ fn fail_reads(
         failing_read: reads.saturating_add(1),
         ..on
     };
-    assert!(rt; left_over(alloc, words, text, past)?.status == 0, "{words}");
+    assert!(rt; left_over(alloc, call, past)?.status == 0, "{words}");
     Ok(())
 }
 
@@ -157,32 +159,27 @@ fn fail_reads(
 fn write_all(
     rt: &impl Abort,
     alloc: Global,
-    words: &str,
-    text: &[u8],
+    call: Call<'_>,
     on: Devices,
     whole: &[u8],
 ) -> Result<(), Memory> {
-    assert!(rt; left_over(alloc, words, text, on)?.is(0, whole), "{words}");
+    let words = call.words;
+    assert!(rt; left_over(alloc, call, on)?.is(0, whole), "{words}");
     Ok(())
 }
 
 // Each write and the flush fail in turn: the bytes of the writes before are there. One number
 // further, none fails.
-fn fail_writes(
-    rt: &impl Abort,
-    alloc: Global,
-    words: &str,
-    text: &[u8],
-    on: Devices,
-) -> Result<(), Memory> {
-    let whole = left_over(alloc, words, text, SOUND)?.out;
+fn fail_writes(rt: &impl Abort, alloc: Global, call: Call<'_>, on: Devices) -> Result<(), Memory> {
+    let words = call.words;
+    let whole = left_over(alloc, call, SOUND)?.out;
     let calls = whole.len().div_ceil(on.most_written.max(1)) as u64 + 1;
     for failing_write in 1..=calls {
         let on = Devices {
             failing_write,
             ..on
         };
-        let left = left_over(alloc, words, text, on)?;
+        let left = left_over(alloc, call, on)?;
         let held = on
             .most_written
             .saturating_mul(failing_write as usize - 1)
@@ -194,12 +191,13 @@ fn fail_writes(
         failing_write: calls.saturating_add(1),
         ..on
     };
-    write_all(rt, alloc, words, text, past, &whole)
+    write_all(rt, alloc, call, past, &whole)
 }
 
 #[test]
 fn each_read_and_each_write_may_fail(rt: HostRuntime) -> Result<(), Fail> {
     for (words, text) in CALLS {
+        let call = Call { words, text };
         for (most, failing_err, most_told) in PIECES {
             let on = Devices {
                 most_read: *most,
@@ -208,19 +206,20 @@ fn each_read_and_each_write_may_fail(rt: HostRuntime) -> Result<(), Fail> {
                 most_told: *most_told,
                 ..SOUND
             };
-            fail_reads(&rt, rt.alloc(), words, text, on)?;
-            fail_writes(&rt, rt.alloc(), words, text, on)?;
+            fail_reads(&rt, rt.alloc(), call, on)?;
+            fail_writes(&rt, rt.alloc(), call, on)?;
         }
     }
     Ok(())
 }
 
 // The room ends at each length of what is written: it is full then.
-fn fill_rooms(rt: &impl Abort, alloc: Global, words: &str, text: &[u8]) -> Result<(), Memory> {
-    let whole = left_over(alloc, words, text, SOUND)?.out;
+fn fill_rooms(rt: &impl Abort, alloc: Global, call: Call<'_>) -> Result<(), Memory> {
+    let words = call.words;
+    let whole = left_over(alloc, call, SOUND)?.out;
     for room in 0..whole.len() {
         let on = Devices { room, ..SOUND };
-        let left = left_over(alloc, words, text, on)?;
+        let left = left_over(alloc, call, on)?;
         assert!(rt;
             is_ended(&left, 10, &whole, room, WRITE_FAULT, on),
             "{words}: room {room}"
@@ -230,13 +229,13 @@ fn fill_rooms(rt: &impl Abort, alloc: Global, words: &str, text: &[u8]) -> Resul
         room: whole.len(),
         ..SOUND
     };
-    write_all(rt, alloc, words, text, enough, &whole)
+    write_all(rt, alloc, call, enough, &whole)
 }
 
 #[test]
 fn each_room_may_be_too_small(rt: HostRuntime) -> Result<(), Fail> {
     for (words, text) in CALLS {
-        fill_rooms(&rt, rt.alloc(), words, text)?;
+        fill_rooms(&rt, rt.alloc(), Call { words, text })?;
     }
     Ok(())
 }
