@@ -1,11 +1,9 @@
 // How the graph that is swept comes from a graph of sums.
-use crate::arrangement::Arrangement;
-use crate::items::{Item, Items};
-use crate::order::Order;
 use crate::values::{Parts, Values};
 use crate::weights::weights_of;
 use plan_tools::{Stop, Table, Work};
 use state_graphs::{StateGraph, StateNode, StateOutput};
+use state_orders::{Arrangement, Item, Items, Order, Ranks, Side};
 use std::alloc::Global;
 use sum_graph::SumGraph;
 
@@ -26,13 +24,7 @@ pub fn lower(
 ) -> Result<StateGraph, Stop> {
     let mut work = Work::new(alloc, MOST_WORK);
     let mut items = Items::of(&mut work, graph);
-    let mut order = Order::of(&mut work, &items);
-    if arrangement != Arrangement::Read {
-        order = order.late(&mut work, &items);
-        let long = Values::long(&mut work, &items, &order, arrangement);
-        items.mark_long(&long);
-        order = order.with_long(&mut work, &items, arrangement);
-    }
+    let order = order_of(&mut work, &mut items, arrangement);
     let mut lowered = StateGraph {
         inputs: graph.inputs(),
         nodes: Vec::new(alloc),
@@ -44,6 +36,33 @@ pub fn lower(
     lowered.weights = weights_of(&mut work, &lowered);
     lowered.starts = order.starts;
     work.finish(lowered)
+}
+
+// The order of the items that have symbols, among which are some sums then.
+fn order_of(work: &mut Work, items: &mut Items, arrangement: Arrangement) -> Order {
+    match arrangement {
+        Arrangement::Read => Order::of(work, items),
+        Arrangement::Late | Arrangement::Words => {
+            let order = Order::of(work, items).late(work, items);
+            mark_long(work, items, &order, arrangement);
+            order.with_long(work, items, arrangement)
+        }
+        Arrangement::FirstRanks => in_ranks(work, items, Side::First),
+        Arrangement::LastRanks => in_ranks(work, items, Side::Last),
+    }
+}
+
+// That by ranks.
+fn in_ranks(work: &mut Work, items: &mut Items, side: Side) -> Order {
+    let ranks = Ranks::of(work, items, side);
+    let order = ranks.order(work, items);
+    mark_long(work, items, &order, Arrangement::Words);
+    ranks.with_sums(work, items)
+}
+
+fn mark_long(work: &mut Work, items: &mut Items, order: &Order, arrangement: Arrangement) {
+    let long = Values::long(work, items, order, arrangement);
+    items.mark_long(&long);
 }
 
 fn put_all(

@@ -1,8 +1,6 @@
 // The values of items as vectors.
-use crate::arrangement::Arrangement;
-use crate::items::Items;
-use crate::order::{Order, push_at};
 use plan_tools::{Table, Work, list_at, number};
+use state_orders::{Arrangement, Items, Order, push_at};
 
 /// How many symbols the vector of a sum without one of its own has at most.
 const MOST_SYMBOLS: usize = 44;

@@ -4,8 +4,9 @@ use crate::replaying::moves_of;
 use line_moves::Moves;
 use plan_tools::{Limits, Size, Stop, Work, number};
 use state_graphs::StateGraph;
-use state_lowering::{Arrangement, lower};
-use state_sweeps::{Sweep, Way, sweep_over};
+use state_lowering::lower;
+use state_orders::Arrangement;
+use state_sweeps::{Sweep, Trunk, Way, sweep_over};
 use std::alloc::Global;
 use sum_graph::SumGraph;
 
@@ -14,11 +15,31 @@ const MOST_WORK: u64 = 300_000_000;
 
 const MOST_SWEPT: u64 = 150_000_000;
 
-/// How many of them a sweep may take for each node that lies behind: so many, and more where the
-/// words of a message schedule have symbols, which makes vectors long.
-const PER_NODE: u64 = 6000;
+/// How many of them a sweep may take, and how many more for each node that lies behind.
+#[derive(Clone, Copy, PartialEq, Eq)]
+enum Effort {
+    /// Where nodes stand by ranks.
+    Brief,
+    Usual,
+    /// Where the words of a message schedule have symbols, which makes vectors long.
+    Long,
+}
 
-const PER_NODE_OF_WORDS: u64 = 30_000;
+impl Effort {
+    fn at_first(self) -> u64 {
+        match self {
+            Effort::Brief => 1_500_000,
+            Effort::Usual | Effort::Long => 6_000_000,
+        }
+    }
+
+    fn per_node(self) -> u64 {
+        match self {
+            Effort::Brief | Effort::Usual => 6000,
+            Effort::Long => 30_000,
+        }
+    }
+}
 
 /// How many numbers of cleaned nodes are tried between none and all, and of how much work.
 const TURNS: usize = 6;
@@ -60,12 +81,15 @@ pub fn plan(alloc: Global, graph: &SumGraph, limits: Limits) -> Result<Moves, St
         ports,
         room,
         left: MOST_WORK,
-        per_node: PER_NODE,
+        effort: Effort::Usual,
         is_over: false,
         gave_up: false,
         best: None,
     };
-    search.search(graph, Arrangement::Read)?;
+    search.search_ranks(graph)?;
+    if !search.is_over {
+        search.search(graph, Arrangement::Read)?;
+    }
     if !search.gave_up && !search.is_over {
         search.search(graph, Arrangement::Late)?;
     }
@@ -89,9 +113,9 @@ struct Search {
     ports: u32,
     /// How many work lines there may be.
     room: u32,
-    /// The units of work that are left, and how many a sweep may take for each node behind.
+    /// The units of work that are left, and how many of them a sweep may take.
     left: u64,
-    per_node: u64,
+    effort: Effort,
     /// Whether no other order is to be tried.
     is_over: bool,
     /// Whether this order takes too much work.
@@ -173,10 +197,24 @@ impl Search {
     }
 
     fn search_in(&mut self, lowered: StateGraph) -> Result<(), Stop> {
-        if let Some(swept) = self.best_sweep(&lowered)? {
-            let swept = self.once_more(&lowered, swept)?;
+        let mut trunk = None;
+        if let Some(swept) = self.best_sweep(&lowered, &mut trunk)? {
+            let swept = self.once_more(&lowered, swept, &mut trunk)?;
             self.keep(lowered, swept);
         }
+        Ok(())
+    }
+
+    // Tries the orders by ranks, the second one not where the first took too much work. That does
+    // not tell of other orders.
+    fn search_ranks(&mut self, graph: &SumGraph) -> Result<(), Stop> {
+        self.effort = Effort::Brief;
+        self.search(graph, Arrangement::FirstRanks)?;
+        if !self.gave_up && !self.is_over {
+            self.search(graph, Arrangement::LastRanks)?;
+        }
+        self.effort = Effort::Usual;
+        self.gave_up = false;
         Ok(())
     }
 
@@ -185,7 +223,7 @@ impl Search {
         match self.lowered(graph, Arrangement::Words)? {
             Some(lowered) if has_words(&lowered) => {
                 self.gave_up = false;
-                self.per_node = PER_NODE_OF_WORDS;
+                self.effort = Effort::Long;
                 self.search_in(lowered)
             }
             _ => Ok(()),
@@ -197,8 +235,8 @@ impl Search {
         let Some(lowered) = self.lowered(graph, Arrangement::Read)? else {
             return Ok(());
         };
-        self.per_node = PER_NODE;
-        if let Some(swept) = self.swept(&lowered, Choice::BENEATH)? {
+        self.effort = Effort::Usual;
+        if let Some(swept) = self.swept(&lowered, Choice::BENEATH, &mut None)? {
             self.keep(lowered, swept);
         }
         Ok(())
@@ -218,8 +256,12 @@ impl Search {
 
     // The best sweep of a graph that fits, if it is better than that of the other one. If that has
     // no node cleaned, none is cleaned here.
-    fn best_sweep(&mut self, graph: &StateGraph) -> Result<Option<Swept>, Stop> {
-        if let Some(kept) = self.swept(graph, Choice::KEPT)? {
+    fn best_sweep(
+        &mut self,
+        graph: &StateGraph,
+        trunk: &mut Option<Trunk>,
+    ) -> Result<Option<Swept>, Stop> {
+        if let Some(kept) = self.swept(graph, Choice::KEPT, trunk)? {
             self.is_over |= !kept.sweep.has_beneath;
             return Ok(if self.is_better(&kept) {
                 Some(kept)
@@ -227,11 +269,11 @@ impl Search {
                 None
             });
         }
-        if self.gave_up || self.is_kept() {
+        if self.gave_up || self.is_kept() || trunk.is_none() {
             return Ok(None);
         }
-        match self.swept(graph, Choice::KEPT.with_cleaned(u32::MAX))? {
-            Some(clean) if self.is_better(&clean) => Ok(Some(self.between(graph, clean)?)),
+        match self.swept(graph, Choice::KEPT.with_cleaned(u32::MAX), trunk)? {
+            Some(clean) if self.is_better(&clean) => Ok(Some(self.between(graph, clean, trunk)?)),
             _ => Ok(None),
         }
     }
@@ -246,7 +288,12 @@ impl Search {
 
     // The best sweep of a graph with some nodes cleaned, where it fits with all of them cleaned,
     // and not with none.
-    fn between(&mut self, graph: &StateGraph, clean: Swept) -> Result<Swept, Stop> {
+    fn between(
+        &mut self,
+        graph: &StateGraph,
+        clean: Swept,
+        trunk: &mut Option<Trunk>,
+    ) -> Result<Swept, Stop> {
         let mut best = clean;
         let mut bracket = Bracket::of(best.sweep.cleaned, best.lines.work);
         let enough = self.left.saturating_sub(MOST_BETWEEN);
@@ -256,7 +303,7 @@ impl Search {
                 break;
             }
             let cleaned = bracket.next(slack);
-            match self.swept(graph, best.choice.with_cleaned(cleaned))? {
+            match self.swept(graph, best.choice.with_cleaned(cleaned), trunk)? {
                 Some(found) => {
                     bracket.fit(cleaned, found.lines.work);
                     if found.size(self.ports) < best.size(self.ports) {
@@ -270,7 +317,12 @@ impl Search {
     }
 
     // A sweep that took little work, or the same without a margin where that is better.
-    fn once_more(&mut self, graph: &StateGraph, swept: Swept) -> Result<Swept, Stop> {
+    fn once_more(
+        &mut self,
+        graph: &StateGraph,
+        swept: Swept,
+        trunk: &mut Option<Trunk>,
+    ) -> Result<Swept, Stop> {
         if swept.work > MOST_ONCE_MORE {
             return Ok(swept);
         }
@@ -279,7 +331,7 @@ impl Search {
             margin: 0,
             ..swept.choice
         };
-        let found = self.swept(graph, choice)?;
+        let found = self.swept(graph, choice, trunk)?;
         self.gave_up = gave_up;
         match found {
             Some(found) if found.size(self.ports) < swept.size(self.ports) => Ok(found),
@@ -296,7 +348,8 @@ impl Search {
         Way {
             cleaned: choice.cleaned,
             is_beneath: choice.is_beneath,
-            per_node: self.per_node,
+            at_first: self.effort.at_first(),
+            per_node: self.effort.per_node(),
             margin: choice.margin,
             rows: self.ports.saturating_add(self.room),
             toffoli,
@@ -304,13 +357,19 @@ impl Search {
     }
 
     // A sweep, if its work is not too much, and it fits.
-    fn swept(&mut self, graph: &StateGraph, choice: Choice) -> Result<Option<Swept>, Stop> {
+    fn swept(
+        &mut self,
+        graph: &StateGraph,
+        choice: Choice,
+        trunk: &mut Option<Trunk>,
+    ) -> Result<Option<Swept>, Stop> {
         let mut work = Work::new(self.alloc, self.left.min(MOST_SWEPT));
-        let found = sweep_over(&mut work, graph, self.way(choice));
+        let found = sweep_over(&mut work, graph, self.way(choice), trunk);
         self.left = self.left.saturating_sub(work.spent());
         let sweep = match found {
             Err(Stop::GaveUp) => {
-                self.gave_up |= choice.cleaned > 0 || graph.starts.len() < 2;
+                let is_alike = choice.cleaned > 0 || graph.starts.len() < 2 || trunk.is_none();
+                self.gave_up |= is_alike || self.effort == Effort::Brief;
                 return Ok(None);
             }
             found => found?,

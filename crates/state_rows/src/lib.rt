@@ -6,4 +6,4 @@ mod placing;
 mod rows;
 
 pub use placing::Place;
-pub use rows::{Layer, Mark, StateRows, Step};
+pub use rows::{Layer, Mark, StateRows, Step, copy_of};

@@ -135,8 +135,7 @@ impl StateRows {
             self.exchange(work, vector, &rows);
             return false;
         }
-        let row = self.fresh(work, Layer::Beneath);
-        self.push(work, Step::Last(row));
+        let row = self.fresh_last(work);
         let vector = work.copy(vector);
         self.place(work, row, vector, Place::Free);
         true

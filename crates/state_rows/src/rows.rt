@@ -1,6 +1,6 @@
 // Rows in two layers, with what changed them.
 use crate::placing::Place;
-use plan_tools::{Echelon, Reduced, Row, Table, Work};
+use plan_tools::{Echelon, Reduced, Row, Table, Work, number};
 
 /// Where a row belongs. Rows of the state begin as zeros and end as outputs; those beneath are
 /// undone in the end, and so only rows beneath may be added to them.
@@ -41,6 +41,38 @@ pub enum Step {
     },
 }
 
+impl Step {
+    fn copy(&self, work: &mut Work) -> Step {
+        match self {
+            Step::Add { from, to } => Step::Add {
+                from: *from,
+                to: *to,
+            },
+            Step::Toggle {
+                node,
+                onto,
+                first,
+                second,
+            } => Step::Toggle {
+                node: *node,
+                onto: *onto,
+                first: work.copy(first),
+                second: work.copy(second),
+            },
+            Step::Begin(row) => Step::Begin(*row),
+            Step::End { row, layer } => Step::End {
+                row: *row,
+                layer: *layer,
+            },
+            Step::Last(row) => Step::Last(*row),
+            Step::Define { row, node } => Step::Define {
+                row: *row,
+                node: *node,
+            },
+        }
+    }
+}
+
 // What a row held before it changed; nothing where it was out.
 #[derive(Drop)]
 struct Change {
@@ -53,6 +85,7 @@ struct Change {
 pub struct Mark {
     steps: usize,
     next: Row,
+    lasts: u32,
 }
 
 /// Rows of vectors with different heads, their greatest symbols. A row without a vector is out.
@@ -68,6 +101,8 @@ pub struct StateRows {
     pub(crate) margin: usize,
     /// The row behind those that were made.
     next: Row,
+    /// How many of them keep their lines up to the end.
+    lasts: u32,
     /// The changes of rows since the last call of `mark`.
     changes: Option<Vec<Change>>,
     /// Of each row when it changed last, counted in changes.
@@ -89,6 +124,7 @@ impl StateRows {
             layers: Table::of(Vec::new(work.alloc), Layer::State),
             is_definition: Table::of(Vec::new(work.alloc), false),
             next: 0,
+            lasts: 0,
             changes: None,
             moments: Table::of(Vec::new(work.alloc), 0),
             now: 0,
@@ -101,6 +137,11 @@ impl StateRows {
     /// How many rows were made.
     pub fn count(&self) -> u32 {
         self.next
+    }
+
+    /// How many rows keep their lines up to the end: each has another one.
+    pub fn lasts(&self) -> u32 {
+        self.lasts
     }
 
     /// How many rows have a vector: each of them has a line of its own.
@@ -289,6 +330,7 @@ impl StateRows {
         Mark {
             steps: self.steps.len(),
             next: self.next,
+            lasts: self.lasts,
         }
     }
 
@@ -311,6 +353,33 @@ impl StateRows {
         }
         self.steps.truncate(mark.steps);
         self.next = mark.next;
+        self.lasts = mark.lasts;
+    }
+
+    /// A new row beneath, which is out, and is wanted no more behind that.
+    pub(crate) fn fresh_last(&mut self, work: &mut Work) -> Row {
+        let row = self.fresh(work, Layer::Beneath);
+        self.push(work, Step::Last(row));
+        self.lasts = self.lasts.saturating_add(1);
+        row
+    }
+
+    /// The same rows and steps once more. Changes are not noted there.
+    pub fn copy(&self, work: &mut Work) -> StateRows {
+        StateRows {
+            echelon: copy_of(work, &self.echelon),
+            layers: self.layers.copy(work),
+            is_definition: self.is_definition.copy(work),
+            margin: self.margin,
+            next: self.next,
+            lasts: self.lasts,
+            changes: None,
+            moments: self.moments.copy(work),
+            now: self.now,
+            changed: work.copy(&self.changed),
+            is_changed: self.is_changed.copy(work),
+            steps: copies_of(work, &self.steps),
+        }
     }
 
     /// Appends a step.
@@ -324,4 +393,26 @@ impl StateRows {
             work.push(&mut self.steps, Step::Add { from: *from, to });
         }
     }
+}
+
+/// The same rows once more.
+pub fn copy_of(work: &mut Work, echelon: &Echelon) -> Echelon {
+    let mut copy = Echelon::new(work, echelon.symbols());
+    for row in 0..number(echelon.made()) {
+        let _ = copy.fresh(work);
+        let vector = work.copy(echelon.vector(row));
+        if !vector.is_empty() {
+            copy.put(work, row, vector);
+        }
+    }
+    copy
+}
+
+fn copies_of(work: &mut Work, steps: &[Step]) -> Vec<Step> {
+    let mut copies = Vec::new(work.alloc);
+    for step in steps {
+        let copy = step.copy(work);
+        work.push(&mut copies, copy);
+    }
+    copies
 }

@@ -57,7 +57,8 @@ struct Trial {
 
 impl Sweeper<'_> {
     /// Back over a segment of as few cuts as keep nothing, and ask for nothing that needs more
-    /// beneath; or, if there is none, of those that need the fewest nodes beneath.
+    /// beneath; or, if there is none, of those that need the fewest nodes beneath. None where a
+    /// node beneath is met while that is watched: nothing is changed then.
     pub fn back_over_segment(&mut self, cuts: Cuts<'_>) -> Option<Segment> {
         let saved = self.save();
         self.set_most(u32::MAX, u32::MAX);
@@ -71,12 +72,18 @@ impl Sweeper<'_> {
                 best = better(best, trial);
             }
             self.undo(saved);
+            if self.has_met() {
+                break;
+            }
             if let Some(best) = &best {
                 self.set_most(best.asked, saved.counts().kept);
             }
         }
         self.set_most(u32::MAX, u32::MAX);
         self.rows.keep();
+        if self.has_met() {
+            return None;
+        }
         self.again(cuts, &best?)
     }
 

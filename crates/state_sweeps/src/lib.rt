@@ -8,5 +8,7 @@ mod pivots;
 mod segments;
 mod sweeper;
 mod sweeping;
+mod trunk;
 
 pub use sweeping::{End, First, Sweep, Way, sweep_over};
+pub use trunk::Trunk;

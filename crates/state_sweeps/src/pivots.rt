@@ -1,7 +1,7 @@
 // The state solved for the symbols of greatest weight.
 use plan_tools::{Echelon, Row, Table, Work, number};
 use state_graphs::StateGraph;
-use state_rows::{Layer, StateRows};
+use state_rows::{Layer, StateRows, copy_of};
 
 /// How many rows that are passed are a unit of work.
 const PER_UNIT: usize = 16;
@@ -88,6 +88,14 @@ impl Pivots {
         Pivots {
             rows: Echelon::new(work, symbols),
             made: Vec::new(work.alloc),
+        }
+    }
+
+    /// The same once more.
+    pub fn copy(&self, work: &mut Work) -> Pivots {
+        Pivots {
+            rows: copy_of(work, &self.rows),
+            made: work.copy(&self.made),
         }
     }
 

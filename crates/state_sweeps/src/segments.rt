@@ -1,6 +1,6 @@
 // Segments of nodes, each of which goes off and is made again.
 use crate::needs::Range;
-use crate::sweeper::Sweeper;
+use crate::sweeper::{Sweeper, Watch};
 use plan_tools::number;
 use state_graphs::StateNode;
 use state_rows::Layer;
@@ -44,9 +44,13 @@ impl Sweeper<'_> {
     fn close(&mut self, range: Range, is_clean: bool) -> Vec<u32> {
         let beneath = self.needed(range, Layer::Beneath, None);
         let state = self.needed(range, Layer::State, Some(&beneath));
-        if is_clean {
+        if is_clean || self.watch == Watch::On {
             let inner = self.inner_of(range, &beneath);
-            self.close_beneath(inner);
+            if self.watch == Watch::On && !inner.is_empty() {
+                self.watch = Watch::Met;
+            } else {
+                self.close_beneath(inner);
+            }
         }
         let inner = self.inner_of(range, &state);
         self.go_off(inner, Layer::State)

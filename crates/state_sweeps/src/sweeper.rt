@@ -32,6 +32,14 @@ pub struct Most {
     pub kept: u32,
 }
 
+/// Whether a sweep is to stop at the first segment that needs nodes beneath, and whether it did.
+#[derive(Clone, Copy, PartialEq, Eq)]
+pub enum Watch {
+    Off,
+    On,
+    Met,
+}
+
 /// Where a sweep stood.
 #[derive(Clone, Copy)]
 pub struct Saved {
@@ -57,6 +65,7 @@ pub struct Sweeper<'g> {
     pub rows: StateRows,
     pub counts: Counts,
     pub most: Most,
+    pub watch: Watch,
     /// What was asked for since a segment began.
     pub requests: Vec<Vec<u32>>,
 }
@@ -81,14 +90,21 @@ impl Sweeper<'_> {
                 asked: u32::MAX,
                 kept: u32::MAX,
             },
+            watch: Watch::Off,
             requests: Vec::new(work.alloc),
             work,
         }
     }
 
-    /// Whether more was asked for or kept than may be.
+    /// Whether more was asked for or kept than may be, or a node beneath was met.
     pub fn is_over(&self) -> bool {
-        self.counts.asked > self.most.asked || self.counts.kept > self.most.kept
+        let is_too_much = self.counts.asked > self.most.asked || self.counts.kept > self.most.kept;
+        is_too_much || self.has_met()
+    }
+
+    /// Whether a node beneath was met while that was watched.
+    pub fn has_met(&self) -> bool {
+        self.watch == Watch::Met
     }
 
     /// From here on it can be undone.

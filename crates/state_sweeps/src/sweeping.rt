@@ -1,6 +1,7 @@
 // Sweeps over all nodes, from the end.
 use crate::growth::{Cuts, Segment};
-use crate::sweeper::Sweeper;
+use crate::sweeper::{Sweeper, Watch};
+use crate::trunk::{Stand, Trunk};
 use plan_tools::{Row, Stop, Work, number};
 use state_graphs::StateGraph;
 use state_rows::{Layer, Place, Step};
@@ -8,9 +9,6 @@ use std::mem;
 
 /// The most steps of a sweep. Each is a gate and more.
 const MOST_STEPS: usize = 4_000_000;
-
-/// The most units of work of a sweep at first.
-const AT_FIRST: u64 = 6_000_000;
 
 /// How a sweep goes, and what it may take at most: it is given up where it takes more.
 #[derive(Clone, Copy)]
@@ -20,7 +18,8 @@ pub struct Way {
     /// Whether all nodes are made beneath: the state has sums of inputs alone, to which the outputs
     /// are copied.
     pub is_beneath: bool,
-    /// The units of work that it may take for each node that lies behind, beside six millions.
+    /// The units of work that it may take, and those that come for each node that lies behind.
+    pub at_first: u64,
     pub per_node: u64,
     /// By more than how many symbols a vector is to be shorter than a row to take its head.
     pub margin: usize,
@@ -65,27 +64,35 @@ pub struct Sweep {
 
 /// Goes over all nodes from the end, a segment at a time. Each symbol that is added is a unit of
 /// work, and each node that is looked through for what is needed. None where it takes more than it
-/// may.
+/// may. It begins where the trunk of an earlier sweep of the same graph ends, or becomes the trunk
+/// of later ones; where there is none then, other numbers of cleaned nodes make no difference.
 ///
 /// # Errors
 ///
 /// `GaveUp` where the work is spent, or there are too many steps; `Memory` where memory is refused.
 /// No clause says so.
-pub fn sweep_over(work: &mut Work, graph: &StateGraph, way: Way) -> Result<Option<Sweep>, Stop> {
+pub fn sweep_over(
+    work: &mut Work,
+    graph: &StateGraph,
+    way: Way,
+    trunk: &mut Option<Trunk>,
+) -> Result<Option<Sweep>, Stop> {
     let mut sweeper = Sweeper::new(graph, work.part(u64::MAX), way.margin);
-    let found = sweeper.sweep(way);
+    let found = sweeper.sweep(way, trunk);
     work.join(&sweeper.work);
     work.finish(found)
 }
 
 impl Sweeper<'_> {
-    fn sweep(&mut self, way: Way) -> Option<Sweep> {
-        let ends = self.begin_outputs();
-        self.copy_outputs(&ends);
-        if way.is_beneath {
-            self.want_outputs_beneath();
+    fn sweep(&mut self, way: Way, trunk: &mut Option<Trunk>) -> Option<Sweep> {
+        let mut stand = match trunk {
+            Some(trunk) if trunk.is_of(way) => self.resume(trunk),
+            _ => self.begin(way),
+        };
+        if trunk.is_none() && !way.is_beneath {
+            self.watch = Watch::On;
         }
-        if !self.go_back(way) {
+        if !self.go_back(way, &mut stand, trunk) {
             return None;
         }
         self.insert_inputs();
@@ -94,11 +101,28 @@ impl Sweeper<'_> {
             gates: self.gates(),
             steps: self.work.take(&mut self.rows.steps),
             rows: self.rows.count(),
-            ends,
+            ends: stand.ends,
             toffoli: self.counts.toffoli,
             has_beneath: self.counts.has_beneath,
             cleaned: self.counts.cleaned,
         })
+    }
+
+    // It stands at the end.
+    fn begin(&mut self, way: Way) -> Stand {
+        let ends = self.begin_outputs();
+        self.copy_outputs(&ends);
+        if way.is_beneath {
+            self.want_outputs_beneath();
+        }
+        let end = self.nodes();
+        Stand {
+            ends,
+            segments: self.graph.starts.len(),
+            end,
+            score: self.score(end),
+            spent: 0,
+        }
     }
 
     // A row of the state for each output that has symbols; those that are sums of rows stay out.
@@ -152,41 +176,43 @@ impl Sweeper<'_> {
         nodes
     }
 
-    // Back over all segments; whether that takes no more than it may.
-    fn go_back(&mut self, way: Way) -> bool {
+    // Back over all segments; whether that takes no more than it may. At the first segment that
+    // needs nodes beneath it becomes the trunk, if that is watched.
+    fn go_back(&mut self, way: Way, stand: &mut Stand, trunk: &mut Option<Trunk>) -> bool {
         let graph = self.graph;
-        let mut starts = graph.starts.as_slice();
-        let mut end = number(graph.nodes.len());
-        let mut score = self.score(end);
-        for _ in 0..graph.starts.len() {
-            let cuts = Cuts {
-                starts,
-                end,
-                cleaned: way.cleaned,
-                score,
-            };
-            let Some(segment) = self.back_over_within(cuts, way.per_node) else {
+        for _ in 0..graph.starts.len().saturating_add(1) {
+            if stand.segments == 0 {
                 break;
-            };
-            score = segment.score;
-            starts = &starts[..starts.len().saturating_sub(segment.count)];
-            end = cuts.start(segment.count);
+            }
+            let cuts = stand.cuts(&graph.starts, way);
+            if let Some(segment) = self.back_over_within(cuts, way, stand.spent) {
+                stand.pass(segment, cuts.start(segment.count));
+            } else if self.has_met() {
+                self.watch = Watch::Off;
+                *trunk = Some(self.trunk(stand, way.margin));
+            } else {
+                break;
+            }
             self.stop_at(MOST_STEPS);
-            if self.is_beyond(way, end) {
+            if self.is_beyond(way, stand.end) {
                 return false;
             }
         }
-        if end > 0 {
+        if stand.end > 0 {
             self.work.give_up();
         }
         true
     }
 
-    // Back over a segment, of as much work as the nodes behind it allow.
-    fn back_over_within(&mut self, cuts: Cuts<'_>, per_node: u64) -> Option<Segment> {
+    // Back over a segment, of as much work as the nodes behind it allow, of which so much was spent
+    // before.
+    fn back_over_within(&mut self, cuts: Cuts<'_>, way: Way, before: u64) -> Option<Segment> {
         let passed = self.nodes().saturating_sub(cuts.end) as u64;
-        let most = passed.saturating_mul(per_node).saturating_add(AT_FIRST);
-        let part = self.work.part(most.saturating_sub(self.work.spent()));
+        let most = passed
+            .saturating_mul(way.per_node)
+            .saturating_add(way.at_first);
+        let spent = self.work.spent().saturating_add(before);
+        let part = self.work.part(most.saturating_sub(spent));
         let whole = mem::replace(&mut self.work, part);
         let segment = self.back_over_segment(cuts);
         let part = mem::replace(&mut self.work, whole);
@@ -200,10 +226,13 @@ impl Sweeper<'_> {
         }
     }
 
-    // Whether it takes more than it may, with so many nodes that are left.
+    // Whether it takes more than it may, with so many nodes that are left. At the end all outputs
+    // have lines, and all rows that keep theirs.
     fn is_beyond(&self, way: Way, left: u32) -> bool {
         let toffoli = self.counts.toffoli.saturating_add(left as u64);
-        toffoli > way.toffoli || self.rows.rank() > way.rows
+        let outputs = number(self.graph.outputs.len());
+        let at_the_end = self.rows.lasts().saturating_add(outputs);
+        toffoli > way.toffoli || self.rows.rank().max(at_the_end) > way.rows
     }
 
     // The gates of all steps, those for rows beneath twice.

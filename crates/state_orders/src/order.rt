@@ -329,7 +329,8 @@ impl<'o> Lateness<'o> {
     }
 }
 
-fn last_top(reads: &[u32], tops: &Table<u32>) -> u32 {
+/// The greatest of the numbers that some items have; 0 where there are none.
+pub fn last_top(reads: &[u32], tops: &Table<u32>) -> u32 {
     let mut last = 0;
     for read in reads {
         last = tops.get(*read).max(last);

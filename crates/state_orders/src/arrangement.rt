@@ -11,4 +11,9 @@ pub enum Arrangement {
     /// message schedule; and a sum with a symbol stands right before its first reader where that is
     /// far behind.
     Words,
+    /// Nodes stand by ranks, each as early as it can, as where rounds change one half of a state
+    /// under the other; words have symbols.
+    FirstRanks,
+    /// The same, but each node as late as it can.
+    LastRanks,
 }
