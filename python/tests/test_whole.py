@@ -10,6 +10,7 @@ from aes128_key import aes128_key
 from blake2s import START as BLAKE2S_START, blake2s
 from md5 import START, md5
 from sha1 import START as SHA1_START, sha1
+from simeck32_64 import simeck32_64
 from whole import FOLDER, WHOLE, joined, words
 from xtea import xtea
 
@@ -40,6 +41,8 @@ class Wholes(unittest.TestCase):
         self.assertEqual(found, words(hashlib.blake2s(b"abc").digest(), 4, "little"))
         key, text = words(bytes(range(16))), words(b"ABCDEFGH")
         self.assertEqual(xtea(text=joined(text, 32), key=joined(key, 32)), [0x497df3d0, 0x72612cb5])
+        key = [0x0100, 0x0908, 0x1110, 0x1918]
+        self.assertEqual(simeck32_64(text=0x65656877, key=joined(key, 16)), 0x770d2c76)
 
     def test_key_search(self) -> None:
         right = int.from_bytes(bytes(range(16)), "little")
