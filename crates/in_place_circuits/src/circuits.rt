@@ -24,7 +24,7 @@ pub fn circuit_of(
     ensures { IfOk result (λ found. IfSome found (λ narrow.
         (narrow.lines ≡ lines) × (length narrow.gates ≤ limit))) }
 {
-    let Some(narrow) = narrow_of(alloc, lines, limit, flips)? else {
+    let Some(narrow) = narrow_of(Circuit::new(alloc, lines, limit), flips)? else {
         return Ok(None);
     };
     if flips.len() > MOST_TIDIED {
@@ -34,16 +34,13 @@ pub fn circuit_of(
     Ok(Some(tidied))
 }
 
-fn narrow_of(
-    alloc: Global,
-    lines: u32,
-    limit: u64,
-    flips: &[Flip],
-) -> Result<Option<Narrow>, Memory>
+// The gates on an empty circuit.
+fn narrow_of(circuit: Circuit, flips: &[Flip]) -> Result<Option<Narrow>, Memory>
+    requires { AreNarrow circuit.gates }
     ensures { IfOk result (λ found. IfSome found (λ narrow.
-        (narrow.lines ≡ lines) × (length narrow.gates ≤ limit))) }
+        (narrow.lines ≡ circuit.lines) × (length narrow.gates ≤ circuit.limit))) }
 {
-    let mut circuit = Circuit::new(alloc, lines, limit);
+    let mut circuit = circuit;
     for flip in flips {
         match push(&mut circuit, *flip) {
             Ok(true) => {}

@@ -20,6 +20,18 @@ use revs_tape::Tape;
 use std::alloc::Global;
 use sum_verify::{SumsFault, verify as by_sums};
 
+// What a circuit is to compute, on which inputs, within which budget, and of how many nodes the
+// diagrams may be.
+#[derive(Clone, Copy)]
+struct Wanted<'t> {
+    tape: &'t Tape,
+    graph: &'t Settled,
+    assumed: u32,
+    premised: &'t Settled,
+    budget: &'t Budget,
+    nodes: u32,
+}
+
 /// A circuit within a budget that puts the outputs of a tape on the lines of its inputs and on the
 /// lines behind these, on each input on which its first so many claims hold, if one is found. It is
 /// verified by sums, or by diagrams of at most so many nodes. That none is found says nothing.
@@ -41,9 +53,28 @@ pub fn find(
     }
     let premised = premise(tape, assumed)?;
     let all = search(alloc, tape, limits_of(budget))?;
+    let wanted = Wanted {
+        tape,
+        graph,
+        assumed,
+        premised: &premised,
+        budget,
+        nodes,
+    };
+    best_of(alloc, wanted, &all)
+}
+
+// The best of the circuits of some gates, of those that are within the budget and verified.
+fn best_of(alloc: Global, wanted: Wanted<'_>, all: &[Vec<Flip>]) -> Result<Option<Laid>, Memory>
+    requires of_tape { IsSettledOf wanted.tape.now wanted.graph.now }
+    requires of_premise { IsSettledOf (premise wanted.assumed wanted.tape.now) wanted.premised.now }
+    requires nodes { 1 ≤ wanted.nodes }
+    ensures { IfOk result (λ found.
+        IfSome found (IsFound wanted.entry.tape.now wanted.entry.assumed wanted.entry.budget.now)) }
+{
     let mut best = None;
-    for flips in &all {
-        let found = checked(alloc, tape, graph, assumed, &premised, budget, nodes, flips)?;
+    for flips in all {
+        let found = checked(alloc, wanted, flips)?;
         best = better(best, found);
     }
     Ok(best)
@@ -79,28 +110,21 @@ fn lesser(best: Laid, found: Laid) -> Laid
 }
 
 // The circuit of some gates, where it is within the budget and verified.
-fn checked(
-    alloc: Global,
-    tape: &Tape,
-    graph: &Settled,
-    assumed: u32,
-    premised: &Settled,
-    budget: &Budget,
-    nodes: u32,
-    flips: &[Flip],
-) -> Result<Option<Laid>, Memory>
-    requires of_tape { IsSettledOf tape.now graph.now }
-    requires of_premise { IsSettledOf (premise assumed tape.now) premised.now }
-    requires nodes { 1 ≤ nodes }
-    ensures { IfOk result (λ found. IfSome found (IsFound tape.now assumed budget.now)) }
+fn checked(alloc: Global, wanted: Wanted<'_>, flips: &[Flip]) -> Result<Option<Laid>, Memory>
+    requires of_tape { IsSettledOf wanted.tape.now wanted.graph.now }
+    requires of_premise { IsSettledOf (premise wanted.assumed wanted.tape.now) wanted.premised.now }
+    requires nodes { 1 ≤ wanted.nodes }
+    ensures { IfOk result (λ found.
+        IfSome found (IsFound wanted.entry.tape.now wanted.entry.assumed wanted.entry.budget.now)) }
 {
+    let (graph, budget) = (wanted.graph, wanted.budget);
     let ports = graph.inputs().max(graph.outputs().len() as u32);
     let lines = lines_on(flips, ports).saturating_add(budget.borrow());
     if lines > budget.lines() {
         return Ok(None);
     }
     match circuit_of(alloc, lines, budget.gates(), flips)? {
-        Some(narrow) => laid(alloc, tape, graph, assumed, premised, budget, nodes, narrow),
+        Some(narrow) => laid(alloc, wanted, narrow),
         None => Ok(None),
     }
 }
@@ -127,31 +151,24 @@ fn behind(line: u32) -> u32 {
 }
 
 // A circuit as one in place, where it is verified.
-fn laid(
-    alloc: Global,
-    tape: &Tape,
-    graph: &Settled,
-    assumed: u32,
-    premised: &Settled,
-    budget: &Budget,
-    nodes: u32,
-    narrow: Narrow,
-) -> Result<Option<Laid>, Memory>
-    requires of_tape { IsSettledOf tape.now graph.now }
-    requires of_premise { IsSettledOf (premise assumed tape.now) premised.now }
-    requires nodes { 1 ≤ nodes }
-    requires lines { narrow.lines ≤ budget.now.lines }
-    requires gates { length narrow.gates ≤ budget.now.gates }
-    ensures { IfOk result (λ found. IfSome found (IsFound tape.now assumed budget.now)) }
+fn laid(alloc: Global, wanted: Wanted<'_>, narrow: Narrow) -> Result<Option<Laid>, Memory>
+    requires of_tape { IsSettledOf wanted.tape.now wanted.graph.now }
+    requires of_premise { IsSettledOf (premise wanted.assumed wanted.tape.now) wanted.premised.now }
+    requires nodes { 1 ≤ wanted.nodes }
+    requires lines { narrow.lines ≤ wanted.budget.now.lines }
+    requires gates { length narrow.gates ≤ wanted.budget.now.gates }
+    ensures { IfOk result (λ found.
+        IfSome found (IsFound wanted.entry.tape.now wanted.entry.assumed wanted.entry.budget.now)) }
 {
-    let (params, circuit, borrow) = (tape.params(), narrow.circuit(), budget.borrow());
+    let (graph, premised, params) = (wanted.graph, wanted.premised, wanted.tape.params());
+    let (circuit, borrow) = (narrow.circuit(), wanted.budget.borrow());
     let Ok(compared) = Compared::of(graph, premised, params, circuit, Placing::InPlace, borrow)
     else {
         return Ok(None);
     };
     let (inputs, outputs) = (compared.inputs(), compared.output_lines());
     let work = compared.work();
-    if !is_verified(alloc, compared, nodes)? {
+    if !is_verified(alloc, compared, wanted.nodes)? {
         return Ok(None);
     }
     Ok(Some(Laid::new(narrow, inputs, outputs, work, borrow)))
