@@ -19,7 +19,7 @@ from .equality import equal
 from .errors import (CircuitDiffers, CircuitRefused, ClaimFails, GatesExceeded, KindError, KnownLater, LinesExceeded,
                      NodesExceeded, OutOfMemory, PlaceError, ReadError, Refused, RevcError, TextRefused, TimedOut, Unsettled,
                      WidthError)
-from .functions import assume, clean, function, require
+from .functions import aside, assume, clean, function, require
 from .netlists import Netlist, read
 from .operations import Mux, add, sub
 from .oracles import Oracle, oracle
@@ -35,6 +35,6 @@ __version__ = "1.1"
 __all__ = ["Ands", "Bits", "Cat", "Circuit", "CircuitDiffers", "CircuitRefused", "ClaimFails", "Const", "Cost", "Costs",
            "GatesExceeded", "KindError", "KnownLater", "LinesExceeded", "Mux", "Netlist", "NodesExceeded", "Oracle",
            "OutOfMemory", "PlaceError", "ReadError", "Refused", "RevcError", "Row", "Source", "Step", "Switch",
-           "TextRefused", "TimedOut", "Unsettled", "WidthError", "add", "assume", "clean", "equal", "function", "load", "oracle",
-           "popcount", "read", "require", "sub", "table", "version", "widen"]
+           "TextRefused", "TimedOut", "Unsettled", "WidthError", "add", "aside", "assume", "clean", "equal", "function", "load",
+           "oracle", "popcount", "read", "require", "sub", "table", "version", "widen"]
 __all__ += types.__all__

@@ -168,6 +168,15 @@ def clean(x: Bits) -> None:
     scope().add("clean", None, [x.node], x.width, "")
 
 
+def aside(x: Bits) -> None:
+    """Compute x beside the outputs, which do not need it: it costs no gate.
+
+    `compile_in_place` looks whether its bits are equal to others, so an inverse that is computed aside leads back there:
+    y = lib.aes_sbox(x), and then aside(lib.aes_sbox_inverse(y)). Nothing rests on that it is right.
+    """
+    scope().use(x.node).forced = True
+
+
 def require(x: Bits) -> None:
     """Claim that the bit x is 1 on every input. `check` and `compile` prove it, and it costs no gate."""
     claim_bit(x, "require")

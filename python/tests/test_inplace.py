@@ -6,7 +6,7 @@ from pathlib import Path
 from random import Random
 from typing import Any, Callable, Dict, Iterator, List, Sequence, Tuple
 
-from revc import Cat, Oracle, RevcError, Source, U1, U4, WidthError, assume, lib, oracle, table, widen
+from revc import Cat, Oracle, RevcError, Source, U1, U4, WidthError, aside, assume, function, lib, oracle, table, widen
 from test_files import ran_by_gates
 
 sys.path.insert(0, str(Path(__file__).resolve().parent.parent / "examples"))
@@ -65,6 +65,20 @@ def with_carry(x: U4, c: U1):
 @oracle
 def from_carry(s: U4, c: U1, carry: U1):
     return (Cat(s, carry) - widen(c, 5))[:4], c
+
+
+def keyed(has_inverse: bool) -> Oracle:
+    @function
+    def replaced(x: U4):
+        y = lib.present_sbox(x)
+        if has_inverse:
+            aside(table(y, [PRESENT.index(z) for z in range(16)]))
+        return y
+
+    @oracle
+    def twice(k: U4, x: U4):
+        return k, replaced(replaced(x ^ k) ^ k)
+    return twice
 
 
 def modular(is_bounded: bool) -> Oracle:
@@ -147,6 +161,17 @@ class InPlace(unittest.TestCase):
         self.assertEqual(modular(True).verify(circuit, inplace=True), "verified")
         with self.assertRaisesRegex(RevcError, "`inverse` does not lead back from what `turned` puts out"):
             modular(False).compile_in_place(turned_back)
+
+    def test_aside(self) -> None:
+        """Two S-boxes, each with its inverse computed aside: claimed is nothing, and the search takes what it sees."""
+        circuit = keyed(True).compile_in_place()
+        for k in range(16):
+            for x in range(16):
+                wanted = PRESENT[PRESENT[x ^ k] ^ k]
+                self.assertEqual(ran_by_gates(circuit, k | x << 4), k | wanted << 4)
+        self.assertEqual(keyed(True).verify(circuit, inplace=True), "verified")
+        with self.assertRaisesRegex(RevcError, "no circuit in place was found"):
+            keyed(False).compile_in_place()
 
     def test_no_inverse(self) -> None:
         with self.assertRaisesRegex(RevcError, "`inverse` does not lead back from what `more` puts out"):

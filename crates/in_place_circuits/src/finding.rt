@@ -8,7 +8,7 @@ ghost use Rattle.claim_check.specs.Settled.{IsSettledOf};
 ghost use Rattle.in_place_circuits.specs.Found.{IsFound};
 
 use crate::circuits::circuit_of;
-use crate::searching::search;
+use crate::searching::{search, search_tape};
 use circuit_plans::{Budget, Laid, Narrow, Placing, Size};
 use circuit_verify::{Compared, VerifyFault, verify as by_diagrams};
 use claim_assumptions::premise;
@@ -18,7 +18,10 @@ use plan_tools::{Limits, NOWHERE};
 use revc_base::Memory;
 use revs_tape::Tape;
 use std::alloc::Global;
-use sum_verify::{SumsFault, verify as by_sums};
+use sum_verify::{SumsFault, Unsettled, verify as by_sums, verify_by_cuts, verify_by_wide_cuts};
+
+/// The most nodes of diagrams that are made before cuts are asked.
+const FEW_NODES: u32 = 1 << 16;
 
 // What a circuit is to compute, on which inputs, within which budget, and of how many nodes the
 // diagrams may be.
@@ -34,7 +37,8 @@ struct Wanted<'t> {
 
 /// A circuit within a budget that puts the outputs of a tape on the lines of its inputs and on the
 /// lines behind these, on each input on which its first so many claims hold, if one is found. It is
-/// verified by sums, or by diagrams of at most so many nodes. That none is found says nothing.
+/// verified by sums, with cuts too, or by diagrams of at most so many nodes. That none is found says
+/// nothing.
 pub fn find(
     alloc: Global,
     tape: &Tape,
@@ -52,7 +56,7 @@ pub fn find(
         return Ok(None);
     }
     let premised = premise(tape, assumed)?;
-    let all = search(alloc, tape, limits_of(budget))?;
+    let limits = limits_of(budget);
     let wanted = Wanted {
         tape,
         graph,
@@ -61,6 +65,13 @@ pub fn find(
         budget,
         nodes,
     };
+    if let Some(flips) = search_tape(alloc, tape, limits)? {
+        let found = checked(alloc, wanted, &flips)?;
+        if found.is_some() {
+            return Ok(found);
+        }
+    }
+    let all = search(alloc, tape, limits)?;
     best_of(alloc, wanted, &all)
 }
 
@@ -174,18 +185,50 @@ fn laid(alloc: Global, wanted: Wanted<'_>, narrow: Narrow) -> Result<Option<Laid
     Ok(Some(Laid::new(narrow, inputs, outputs, work, borrow)))
 }
 
-// Whether a circuit is verified: by sums, or by diagrams of so many nodes.
+// Whether a circuit is verified: by sums, by diagrams of few nodes, by cuts, or by diagrams of so
+// many nodes.
 fn is_verified(alloc: Global, compared: Compared<'_>, nodes: u32) -> Result<bool, Memory>
     requires { 1 ≤ nodes }
     ensures { IfOk result (λ is. IsTrue is → IsVerified (comparison compared.entry)) }
 {
     match by_sums(alloc, compared) {
         Ok(()) => Ok(true),
-        Err(SumsFault::Unsettled(left)) => match by_diagrams(alloc, left.compared(), nodes) {
-            Ok(()) => Ok(true),
-            Err(VerifyFault::Memory(memory)) => Err(memory),
-            Err(_) => Ok(false),
-        },
+        Err(SumsFault::Unsettled(left)) => is_verified_further(alloc, left, nodes),
         Err(SumsFault::Memory(memory)) => Err(memory),
+    }
+}
+
+// The same for what sums of products left unsettled.
+fn is_verified_further(alloc: Global, left: Unsettled<'_>, nodes: u32) -> Result<bool, Memory>
+    requires { 1 ≤ nodes }
+    ensures { IfOk result (λ is. IsTrue is → IsVerified (comparison left.entry)) }
+{
+    match by_diagrams(alloc, left.compared(), nodes.min(FEW_NODES)) {
+        Ok(()) => Ok(true),
+        Err(VerifyFault::Diagram { nodes: _ }) => is_verified_by_cuts(alloc, left, nodes),
+        Err(VerifyFault::Differs { line: _, bits: _ }) => Ok(false),
+        Err(VerifyFault::Memory(memory)) => Err(memory),
+    }
+}
+
+// The same where diagrams of few nodes do not tell.
+fn is_verified_by_cuts(alloc: Global, left: Unsettled<'_>, nodes: u32) -> Result<bool, Memory>
+    requires { 1 ≤ nodes }
+    ensures { IfOk result (λ is. IsTrue is → IsVerified (comparison left.entry)) }
+{
+    let left = match verify_by_cuts(alloc, left) {
+        Ok(()) => return Ok(true),
+        Err(SumsFault::Unsettled(left)) => left,
+        Err(SumsFault::Memory(memory)) => return Err(memory),
+    };
+    let left = match verify_by_wide_cuts(alloc, left) {
+        Ok(()) => return Ok(true),
+        Err(SumsFault::Unsettled(left)) => left,
+        Err(SumsFault::Memory(memory)) => return Err(memory),
+    };
+    match by_diagrams(alloc, left.compared(), nodes) {
+        Ok(()) => Ok(true),
+        Err(VerifyFault::Memory(memory)) => Err(memory),
+        Err(_) => Ok(false),
     }
 }

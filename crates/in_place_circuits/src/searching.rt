@@ -8,7 +8,7 @@ use claim_assumptions::bare;
 use claim_check::Settled;
 use dependency_graph::Graph;
 use few_products::few_products;
-use in_place_plans::{Flip, plan};
+use in_place_plans::{Flip, Pace, plan, plan_tape};
 use plan_tools::{Limits, Stop};
 use revc_base::Memory;
 use revs_tape::limits::MOST_OUTPUTS;
@@ -20,23 +20,32 @@ use sum_graph::SumGraph;
 /// The most bits of a sum that is no node of the graph.
 const SHORT_BITS: usize = 4;
 
-/// What may be gates of a circuit in place: one search over the graph of the tape, and one over a
-/// graph with fewer products. Each fact is a claim: its bit is the claimed one on the inputs that
-/// are looked at. Nothing is promised of the gates.
+/// What may be gates of a circuit in place, by a search over the writes of a tape: none where its
+/// unused bits tell nothing. Nothing is promised of the gates.
+pub fn search_tape(
+    alloc: Global,
+    tape: &Tape,
+    limits: Limits,
+) -> Result<Option<Vec<Flip>>, Memory> {
+    found_in(plan_tape(alloc, tape, limits))
+}
+
+/// The same by searches over the graph of the tape and over one with fewer products. Each fact is a
+/// claim: its bit is the claimed one on the inputs that are looked at.
 pub fn search(alloc: Global, tape: &Tape, limits: Limits) -> Result<Vec<Vec<Flip>>, Memory>
     requires some { 1 ≤ length tape.now.outputs }
 {
-    let outputs = tape.outputs().len();
     let facts = claimed_bits(tape)?;
     let lean = graph_of(alloc, tape)?;
     let mut found = Vec::new(alloc);
-    if let Some(flips) = planned(alloc, &lean, outputs, &facts, limits)? {
-        found.push(flips)?;
-    }
+    let sought = Sought {
+        outputs: tape.outputs().len(),
+        facts: &facts,
+        limits,
+    };
+    sought.push_all(alloc, &lean, &mut found)?;
     if let Some(fewer) = few_products(alloc, &lean)? {
-        if let Some(flips) = planned(alloc, &fewer, outputs, &facts, limits)? {
-            found.push(flips)?;
-        }
+        sought.push_all(alloc, &fewer, &mut found)?;
     }
     Ok(found)
 }
@@ -78,19 +87,40 @@ fn outputs_and_claims(tape: &Tape) -> Result<Vec<Ref>, Memory>
     Ok(all)
 }
 
-// The gates that a search over the graph of single products finds, where it finds any.
-fn planned(
-    alloc: Global,
-    sums: &SumGraph,
+// What is sought of a graph: how many of its outputs are in place, what the others are, and within
+// which limits.
+#[derive(Clone, Copy)]
+struct Sought<'f> {
     outputs: usize,
-    facts: &[bool],
+    facts: &'f [bool],
     limits: Limits,
-) -> Result<Option<Vec<Flip>>, Memory> {
-    let Some(single) = single_products(alloc, sums)? else {
-        return Ok(None);
-    };
-    match plan(alloc, &single, outputs, facts, limits) {
-        Ok(flips) => Ok(Some(flips)),
+}
+
+impl Sought<'_> {
+    // Appends the gates that searches over the graph of single products find.
+    fn push_all(
+        &self,
+        alloc: Global,
+        sums: &SumGraph,
+        found: &mut Vec<Vec<Flip>>,
+    ) -> Result<(), Memory> {
+        let Some(single) = single_products(alloc, sums)? else {
+            return Ok(());
+        };
+        for pace in [Pace::Often, Pace::Seldom] {
+            let planned = plan(alloc, &single, self.outputs, self.facts, self.limits, pace);
+            if let Some(flips) = found_in(planned.map(Some))? {
+                found.push(flips)?;
+            }
+        }
+        Ok(())
+    }
+}
+
+// The gates of a search, where it finds any.
+fn found_in(planned: Result<Option<Vec<Flip>>, Stop>) -> Result<Option<Vec<Flip>>, Memory> {
+    match planned {
+        Ok(flips) => Ok(flips),
         Err(Stop::GaveUp) => Ok(None),
         Err(Stop::Memory(memory)) => Err(memory),
     }

@@ -1,30 +1,7 @@
 // Which steps can be ended: what is to be left grows by the products that it gives, until it is all
 // that is there.
-use crate::spaces::Space;
-use crate::task::{Step, Task};
-use crate::vectors::flip;
-use plan_tools::{Work, number};
-
-/// What is wanted behind so many steps: the constant, and the outputs and the factors of later
-/// steps so far as they are made of earlier ones.
-pub fn needed(work: &mut Work, task: &Task, steps: usize) -> Space {
-    let mut wanted = Space::new(work);
-    let mut one = work.filled(0, task.words);
-    flip(&mut one, task.one);
-    wanted.insert(work, &one);
-    for output in &task.outputs {
-        let known = task.known(work, output, steps);
-        wanted.insert(work, &known);
-    }
-    for place in steps..task.steps.len() {
-        let step = &task.steps[place];
-        let first = task.known(work, &step.first, steps);
-        wanted.insert(work, &first);
-        let second = task.known(work, &step.second, steps);
-        wanted.insert(work, &second);
-    }
-    wanted
-}
+use in_place_tasks::{Space, Step, Task};
+use plan_tools::Work;
 
 /// A space that is to be left, grown by the products of steps.
 #[derive(Drop)]
@@ -52,9 +29,9 @@ impl<'t> Closing<'t> {
         self.space.dimension() >= there.dimension()
     }
 
-    /// The space, and the steps by which it grew.
-    pub fn into_parts(self) -> (Space, Vec<u32>) {
-        (self.space, self.grown)
+    /// The space, the steps by which it grew, and its dimension before that.
+    pub fn into_parts(self) -> (Space, Vec<u32>, usize) {
+        (self.space, self.grown, self.least)
     }
 
     /// Leaves the factors of held steps whose products or values are to be left, from the last to
@@ -66,7 +43,7 @@ impl<'t> Closing<'t> {
                 return;
             }
             if let Some(step) = task.steps.get(*number as usize) {
-                if self.space.spans(work, &step.value) || self.space.spans(work, &step.product) {
+                if self.has(work, &step.value) || self.has(work, &step.product) {
                     self.keep(work, there, &step.first);
                     self.keep(work, there, &step.second);
                 }
@@ -74,10 +51,15 @@ impl<'t> Closing<'t> {
         }
     }
 
-    // Leaves a vector that is there.
-    fn keep(&mut self, work: &mut Work, there: &Space, vector: &[u64]) {
-        if there.spans(work, vector) {
-            self.space.insert(work, vector);
+    // Whether a sum is to be left.
+    fn has(&self, work: &mut Work, symbols: &[u32]) -> bool {
+        self.task.is_in(work, &self.space, symbols)
+    }
+
+    // Leaves a sum that is there.
+    fn keep(&mut self, work: &mut Work, there: &Space, symbols: &[u32]) {
+        if self.task.is_in(work, there, symbols) {
+            self.task.insert(work, &mut self.space, symbols);
             self.least = self.space.dimension();
         }
     }
@@ -101,7 +83,7 @@ impl<'t> Closing<'t> {
                 return;
             }
             if let Some(step) = task.steps.get(*number as usize) {
-                if there.spans(work, &step.product) {
+                if self.task.is_in(work, there, &step.product) {
                     self.take(work, step, *number);
                 }
             }
@@ -110,17 +92,19 @@ impl<'t> Closing<'t> {
 
     // Grows by a step whose factors are there.
     fn take(&mut self, work: &mut Work, step: &Step, number: u32) {
-        let can = self.space.spans(work, &step.first) && self.space.spans(work, &step.second);
-        if can && self.space.insert(work, &step.product) {
+        if !self.has(work, &step.first) || !self.has(work, &step.second) {
+            return;
+        }
+        if self.task.insert(work, &mut self.space, &step.product) {
             work.push(&mut self.grown, number);
         }
     }
 
-    // Begins to grow once more, with one vector more to be left.
-    fn leave(&mut self, work: &mut Work, vector: &[u64]) -> bool {
+    // Begins to grow once more, with one sum more to be left.
+    fn leave(&mut self, work: &mut Work, symbols: &[u32]) -> bool {
         self.space.shorten(self.least);
         self.grown.truncate(0);
-        let is_new = self.space.insert(work, vector);
+        let is_new = self.task.insert(work, &mut self.space, symbols);
         self.least = self.space.dimension();
         is_new
     }
@@ -146,11 +130,11 @@ impl<'t> Closing<'t> {
             let Some(step) = task.steps.get(*number as usize) else {
                 continue;
             };
-            if known.contains(number) || !there.spans(work, &step.product) {
+            if known.contains(number) || !task.is_in(work, there, &step.product) {
                 continue;
             }
             for factor in [&step.first, &step.second] {
-                if there.spans(work, factor) && self.leave(work, factor) {
+                if task.is_in(work, there, factor) && self.leave(work, factor) {
                     more = true;
                 }
             }
@@ -161,6 +145,55 @@ impl<'t> Closing<'t> {
         more
     }
 
+    /// The same, where it grows again behind each factor: so few factors are left.
+    pub fn keep_few_factors(&mut self, work: &mut Work, there: &Space, held: &[u32]) {
+        for _ in 0..there.dimension() {
+            let Some(lacking) = self.lacking(work, there, held) else {
+                return;
+            };
+            self.leave(work, lacking);
+            self.grow(work, there, held);
+        }
+    }
+
+    // What is to be left next, so that each held step can end some time, if anything is.
+    fn lacking(&self, work: &mut Work, there: &Space, held: &[u32]) -> Option<&'t [u32]> {
+        for number in held {
+            if work.is_stopped() {
+                return None;
+            }
+            let step = self.task.steps.get(*number as usize)?;
+            let lacking = self.lacking_for(work, there, step);
+            if lacking.is_some() {
+                return lacking;
+            }
+        }
+        None
+    }
+
+    // A factor of a step that is not to be left, where its product is there and does not end now;
+    // or else the product, where that is not to be left.
+    fn lacking_for(&self, work: &mut Work, there: &Space, step: &'t Step) -> Option<&'t [u32]> {
+        let stays = self.is_left(work, &step.product);
+        if !stays
+            && (self.has(work, &step.product) || !self.task.is_in(work, there, &step.product))
+        {
+            return None;
+        }
+        for factor in [&step.first, &step.second] {
+            if !self.is_left(work, factor) && self.task.is_in(work, there, factor) {
+                return Some(factor);
+            }
+        }
+        if stays { None } else { Some(&step.product) }
+    }
+
+    // Whether a sum is to be left, and not only grown.
+    fn is_left(&self, work: &mut Work, symbols: &[u32]) -> bool {
+        let vector = self.task.vector(work, symbols);
+        self.space.first_span(work, &vector, self.least)
+    }
+
     /// Leaves inputs, one after another, until it grows to all that is there.
     pub fn keep_inputs(&mut self, work: &mut Work, there: &Space, held: &[u32]) {
         let task = self.task;
@@ -168,7 +201,7 @@ impl<'t> Closing<'t> {
             if self.is_done(there) || work.is_stopped() {
                 return;
             }
-            if there.spans(work, input) && !self.space.spans(work, input) {
+            if task.is_in(work, there, input) && !self.has(work, input) {
                 self.leave(work, input);
                 self.grow(work, there, held);
             }

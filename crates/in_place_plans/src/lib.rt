@@ -7,9 +7,6 @@ mod closing;
 mod lines;
 mod placing;
 mod planner;
-mod spaces;
-mod task;
-mod vectors;
 
 pub use lines::Flip;
-pub use planner::plan;
+pub use planner::{Pace, plan, plan_tape};

@@ -1,7 +1,6 @@
 // The outputs come onto their lines.
-use crate::basis::Basis;
 use crate::lines::Lines;
-use crate::vectors::{add, has, is_none};
+use in_place_tasks::{add, has, is_none};
 use plan_tools::{NOWHERE, Work, list_at, number};
 
 // A copy of one line onto another.
@@ -45,16 +44,14 @@ impl Lines {
             work.give_up();
             return;
         }
-        self.copy(work, line, free);
-        self.copy(work, free, line);
+        self.shift(work, line, free);
     }
 
     // Of each output the lines whose contents add up to it.
     fn rows(&self, work: &mut Work, outputs: &[Vec<u64>]) -> Vec<Vec<u64>> {
-        let basis = Basis::of(work, &self.contents, self.one(), NOWHERE);
         let mut rows = Vec::new(work.alloc);
         for output in outputs {
-            let row = basis.lines_of(work, output);
+            let row = self.basis.lines_of(work, output);
             work.push(&mut rows, row);
         }
         rows

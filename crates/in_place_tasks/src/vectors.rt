@@ -24,7 +24,12 @@ pub fn flip(vector: &mut [u64], symbol: u32) {
 
 /// Adds a vector of as many words.
 pub fn add(vector: &mut [u64], other: &[u64]) {
-    for place in 0..vector.len() {
+    add_from(vector, other, 0);
+}
+
+/// Adds the words of another vector from a place on.
+pub fn add_from(vector: &mut [u64], other: &[u64], word: usize) {
+    for place in word..vector.len() {
         vector[place] ^= other.get(place).copied().unwrap_or(0);
     }
 }
@@ -35,27 +40,19 @@ pub fn is_none(vector: &[u64]) -> bool {
 
 /// The first symbol of a vector.
 pub fn head_of(vector: &[u64]) -> Option<u32> {
-    let mut before = 0_u32;
-    for word in vector {
-        if *word != 0 {
-            return Some(word.trailing_zeros().saturating_add(before));
-        }
-        before = before.saturating_add(64);
-    }
-    None
+    head_behind(vector, 0)
 }
 
-/// Takes the symbols below this one out of a vector.
-pub fn cut(vector: &mut [u64], symbol: u32) {
-    let whole = (symbol / 64) as usize;
-    for place in 0..vector.len() {
-        if place < whole {
-            vector[place] = 0;
+/// The first symbol of the words from a place on.
+pub fn head_behind(vector: &[u64], word: usize) -> Option<u32> {
+    for place in word..vector.len() {
+        let word = vector[place];
+        if word != 0 {
+            let before = number(place).saturating_mul(64);
+            return Some(word.trailing_zeros().saturating_add(before));
         }
     }
-    if whole < vector.len() {
-        vector[whole] = (vector[whole] >> (symbol % 64)) << (symbol % 64);
-    }
+    None
 }
 
 /// The symbols of a vector, rising.
