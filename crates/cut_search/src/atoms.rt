@@ -202,10 +202,6 @@ impl AtomSet {
         word & !had
     }
 
-    pub fn has(&self, atom: u32) -> bool {
-        (self.words.get(atom / 64) >> (atom % 64)) & 1 == 1
-    }
-
     pub fn word(&self, place: u32) -> u64 {
         self.words.get(place)
     }

@@ -43,7 +43,7 @@ pub struct Member {
 pub struct Guide {
     /// The words of a table that tell all rows of the cut.
     words: usize,
-    reader: Reader,
+    pub reader: Reader,
     /// The marks of the sums that functions of the cut are.
     space: Space,
     rows: Vec<Reduced>,
@@ -108,11 +108,6 @@ impl Guide {
             return None;
         }
         Some(members(work, &set))
-    }
-
-    /// The functions whose sum may be a form: the short ones first.
-    pub fn reading(&self, work: &mut Work, cut: &Cut, form: &Form) -> Option<Vec<usize>> {
-        self.reader.reading(work, &cut.sums, form)
     }
 
     /// The function at a place is this atom. Where it is a sum of others, it may be left out.

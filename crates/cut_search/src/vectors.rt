@@ -92,11 +92,12 @@ impl Vector {
         }
     }
 
-    /// The vector, less another one whose first bit it has.
-    pub fn less(&self, other: &Vector) -> Vector {
-        match other.lead() {
-            Some(lead) if self.has(lead) => self.plus(other),
-            _ => *self,
+    /// The vector, less a row whose lead it has.
+    pub fn less(&self, row: Row) -> Vector {
+        if self.has(row.lead) {
+            self.plus(&row.vector)
+        } else {
+            *self
         }
     }
 }
@@ -144,9 +145,7 @@ impl Space {
         work.spend(self.rows.len() as u64);
         let mut left = *vector;
         for row in &self.rows {
-            if left.has(row.lead) {
-                left = left.plus(&row.vector);
-            }
+            left = left.less(*row);
         }
         left
     }

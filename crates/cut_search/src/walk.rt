@@ -175,15 +175,7 @@ impl Walk {
 // Three vectors less a row.
 fn less(parts: &[Vector; 3], row: Row) -> [Vector; 3] {
     let [one, two, three] = parts;
-    [without(one, row), without(two, row), without(three, row)]
-}
-
-fn without(vector: &Vector, row: Row) -> Vector {
-    if vector.has(row.lead) {
-        vector.plus(&row.vector)
-    } else {
-        *vector
-    }
+    [one.less(row), two.less(row), three.less(row)]
 }
 
 fn order_of(candidate: &Candidate) -> Order {
@@ -199,23 +191,18 @@ fn order_of(candidate: &Candidate) -> Order {
 
 // How many dimensions three vectors span.
 fn rank_of(parts: &[Vector; 3]) -> u32 {
-    let [one, two, three] = parts;
-    let two = two.less(one);
-    let three = three.less(one).less(&two);
+    let [one, mut two, mut three] = *parts;
     let mut rank = 0_u32;
-    for vector in [*one, two, three] {
-        if vector.lead().is_some() {
-            rank = rank.saturating_add(1);
-        }
+    if let Some(lead) = one.lead() {
+        let row = Row { lead, vector: one };
+        (two, three) = (two.less(row), three.less(row));
+        rank = rank.saturating_add(1);
     }
-    rank
-}
-
-// An atom by its depth, the deepest first.
-#[derive(Clone, Copy, PartialEq, Eq, PartialOrd, Ord)]
-struct Depth {
-    left: u32,
-    atom: u32,
+    if let Some(lead) = two.lead() {
+        three = three.less(Row { lead, vector: two });
+        rank = rank.saturating_add(1);
+    }
+    rank.saturating_add(u32::from(three.lead().is_some()))
 }
 
 // The deepest atoms, where there are more than so many.
@@ -223,15 +210,15 @@ fn deepest(work: &mut Work, scene: Scene, atoms: &[u32], most: usize) -> Vec<u32
     if atoms.len() <= most {
         return work.copy(atoms);
     }
-    let mut depths = Vec::new(work.alloc);
+    let mut by_depth = Vec::new(work.alloc);
     for atom in atoms {
         let left = u32::MAX.saturating_sub(scene.atoms.depth(*atom));
-        work.push(&mut depths, Depth { left, atom: *atom });
+        work.push(&mut by_depth, (left, *atom));
     }
-    work.note(depths.sort());
+    work.note(by_depth.sort());
     let mut deepest = Vec::new(work.alloc);
-    for depth in depths.iter().take(most) {
-        work.push(&mut deepest, depth.atom);
+    for (_, atom) in by_depth.iter().take(most) {
+        work.push(&mut deepest, *atom);
     }
     deepest
 }

@@ -20,6 +20,13 @@ pub struct Region {
     pub guide: Guide,
 }
 
+impl Region {
+    // The functions of it whose sum may be a form.
+    fn reading(&self, work: &mut Work, form: &Form) -> Option<Vec<usize>> {
+        self.guide.reader.reading(work, &self.cut.sums, form)
+    }
+}
+
 /// Takes the region of a cut out, where there is one.
 pub fn take_out(regions: &mut Vec<Region>, basis: &Basis) -> Option<Region>
     ensures { (t : ProductsView) → AreRegions t regions.old.items
@@ -114,10 +121,10 @@ fn join(
     let Some(known) = products.known(member.place) else {
         return Ok(());
     };
-    let Some(first) = region.guide.reading(work, &region.cut, &known.first) else {
+    let Some(first) = region.reading(work, &known.first) else {
         return Ok(());
     };
-    let Some(second) = region.guide.reading(work, &region.cut, &known.second) else {
+    let Some(second) = region.reading(work, &known.second) else {
         return Ok(());
     };
     let at = region.cut.functions.len();
@@ -137,10 +144,10 @@ pub fn product_over(
     ensures { IfOk result (λ found. IfSome found (λ sum. (t : ProductsView)
         → AreOverCut t region.now.cut → IsProduct t first.now second.now sum)) }
 {
-    let Some(one) = region.guide.reading(work, &region.cut, first) else {
+    let Some(one) = region.reading(work, first) else {
         return Ok(None);
     };
-    let Some(other) = region.guide.reading(work, &region.cut, second) else {
+    let Some(other) = region.reading(work, second) else {
         return Ok(None);
     };
     let Some(table) = region.cut.product_table(first, &one, second, &other)? else {
@@ -157,7 +164,7 @@ pub fn is_zero_over(work: &mut Work, region: &Region, form: &Form) -> Result<boo
     ensures { IfOk result (λ is. is ≡ true → (t : ProductsView) → AreOverCut t region.now.cut
         → IsZero t form.now) }
 {
-    let Some(places) = region.guide.reading(work, &region.cut, form) else {
+    let Some(places) = region.reading(work, form) else {
         return Ok(false);
     };
     region.cut.is_zero(form, &places)
