@@ -5,7 +5,6 @@ ghost use Rattle.sum_cuts.specs.Cuts.{AreOverCut, IsZero};
 ghost use Rattle.cut_sweeping.specs.inside.Cuts.{HoldsCuts};
 ghost use Rattle.cut_sweeping.specs.inside.Regions.{AreRegions};
 
-use crate::descent::LEAST_SUMS;
 use crate::gone::Gone;
 use crate::met::Met;
 use crate::reach::Reach;
@@ -18,6 +17,7 @@ use plan_tools::{Stop, Work};
 use product_sums::Products;
 use revc_base::Memory;
 use std::alloc::Global;
+use wide_cuts::LEAST_SUMS;
 
 /// The most regions that are kept, and the most functions of all of them.
 const MOST_REGIONS: usize = 4096;

@@ -5,9 +5,7 @@
 //! check it.
 #![tactic(auto)]
 
-mod columns;
 mod cuts;
-mod descent;
 mod gone;
 mod met;
 mod reach;

@@ -1,11 +1,11 @@
 // Sums that may be 0, by their values in some columns.
-use crate::columns::column;
 use crate::reach::Reach;
 use cut_search::{Atoms, Vector, atoms_of};
 use linear_forms::Form;
 use plan_tools::Work;
 use product_sums::Known;
 use std::collections::{HashMap, HashSet};
+use wide_cuts::column;
 
 /// The most sums of the program that are kept, and the most words of them.
 const MOST_FORMS: usize = 65_536;

@@ -2,7 +2,6 @@
 ghost use Rattle.std.specs.Prelude.{◌≡◌, IfOk, true};
 ghost use Rattle.sum_cuts.specs.Cuts.{IsZero};
 
-use crate::descent::{Asked, Descent};
 use crate::reach::Reach;
 use cut_search::{Atoms, FAR, NEAR, Range, Scene};
 use linear_forms::Form;
@@ -10,6 +9,7 @@ use plan_tools::Work;
 use product_sums::Products;
 use revc_base::Memory;
 use sum_cuts::{Judgement, judge};
+use wide_cuts::{Asked, Descent};
 
 /// The nodes that diagrams over a cut may have: more where fewer do not do.
 const NODES: [u32; 4] = [1 << 12, 1 << 14, 1 << 17, 1 << 20];
