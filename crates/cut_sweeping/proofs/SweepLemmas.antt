@@ -1,9 +1,11 @@
 -- Regions and sums that are 0, as they are taken in and out and as the table of products grows.
-use Rattle.std.proofs.Common.{◌≡◌, ℕ, ◌<◌, Bool, true, false, not, List, [], ◌∷◌, ◌++◌, get_or, length, IfOk, IfSome, Option, None, Some, Result, Ok, Err, refl, sym, subst, ◌∙◌}
+use Rattle.std.proofs.Common.{◌≡◌, ℕ, ◌<◌, Bool, true, false, not, List, [], ◌∷◌, ◌++◌, get_or, length, IfOk, IfSome, Option, None, Some, Result, Ok, Err, refl, sym, subst, ap, ◌∙◌}
 use Rattle.std.specs.List.{AllByRecursion, swap_remove}
 use Rattle.std.proofs.lemmas.List.Sorted.{IsPermutation-swap_remove}
+use Rattle.std.specs.Bool.{xor}
+use Rattle.list_facts.proofs.BitLemmas.{xor_same}
 use Rattle.list_facts.proofs.AllLemmas.{AllByRecursion-at, AllByRecursion-permutation, AllByRecursion-push, AllByRecursion-weaker}
-use Rattle.linear_forms.specs.Forms.{FormView, IsConstant, IsSum}
+use Rattle.linear_forms.specs.Forms.{FormView, IsConstant, IsSum, form_value}
 use Rattle.product_sums.specs.Products.{Extends, IsDetermined, IsProduct, ProductsView}
 use Rattle.product_sums.proofs.TableLemmas.{determined_later, determined_product}
 use Rattle.sum_cuts.specs.declared.cut.Cut.{Cut}
@@ -80,6 +82,12 @@ zero_at t zeros i f low is are = subst (IsZero t) (sym is) (AllByRecursion-at (I
 
 pub zero_equal : (t : ProductsView) (f g : FormView) → IsZero t f → AreEqualSums t f g → IsZero t g
 zero_equal t f g none same atom by = sym (same atom by) ∙ none atom by
+
+-- what is added to a sum to make an equal one
+pub added_zero : (t : ProductsView) (f begun normal zero : FormView) → AreEqualSums t f begun → AreEqualSums t begun normal → IsSum normal f zero
+    → IsZero t zero
+added_zero t f begun normal zero one two is atom by =
+    is atom ∙ ap (λ (v : Bool). xor v (form_value atom f)) (sym (one atom by ∙ two atom by)) ∙ xor_same (form_value atom f)
 
 -- the same of an answer
 pub zero_normal : {E : Type 0} (cut : Cut) (zeros : Zeros) (f : FormView) (r : Result FormView E)

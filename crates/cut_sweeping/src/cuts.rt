@@ -156,6 +156,13 @@ impl Cuts {
         Ok(is)
     }
 
+    /// A sum was made of two others: it is noted which of its atoms are left out.
+    pub fn follow(&mut self, first: &Form, second: &Form, sum: &Form) -> Result<(), Memory>
+        ensures { (t : ProductsView) → HoldsCuts t self.old → HoldsCuts t self.new }
+    {
+        self.zeros.follow(&mut self.work, first, second, sum)
+    }
+
     /// A sum was met. Where it has the values of 0 or of a sum of the program in some columns, and
     /// a cut tells that it is that, an atom of it is left out of later sums.
     pub fn meet(&mut self, products: &Products, sum: &Form) -> Result<(), Memory>

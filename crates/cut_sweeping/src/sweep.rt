@@ -77,6 +77,7 @@ impl Sweep {
         ensures same { self.new ≡ self.old }
     {
         let sum = self.added(first, second)?;
+        self.follow(first, second, &sum)?;
         self.meet(&sum)?;
         Ok(sum)
     }
@@ -86,6 +87,13 @@ impl Sweep {
         ensures same { self.new ≡ self.old }
     {
         self.products.sum(first, second)
+    }
+
+    // Notes what may be left out of a sum of two others.
+    fn follow(&mut self, first: &Form, second: &Form, sum: &Form) -> Result<(), ProductsFault>
+        ensures { self.new ≡ self.old }
+    {
+        Ok(self.cuts.follow(first, second, sum)?)
     }
 
     // Looks at a sum that was made.

@@ -53,8 +53,59 @@ impl Zeros {
         ensures { IfSome result (λ zero. (t : ProductsView) → AreZeros t self.now
             → IsZero t zero.now) }
     {
-        let place = self.gone.place_in(form)?;
+        self.at(self.gone.place_in(form)?)
+    }
+
+    fn at(&self, place: usize) -> Option<&Form>
+        ensures { IfSome result (λ zero. (t : ProductsView) → AreZeros t self.now
+            → IsZero t zero.now) }
+    {
         self.forms.get(place)
+    }
+
+    /// A sum was made of two others. Where atoms of it are left out, it is noted how: most often as
+    /// it was in the first one.
+    pub fn follow(
+        &mut self,
+        work: &mut Work,
+        first: &Form,
+        second: &Form,
+        sum: &Form,
+    ) -> Result<(), Memory>
+        ensures { (t : ProductsView) → AreZeros t self.old → AreZeros t self.new }
+    {
+        let Some(places) = self.gone.start(work, first, second, sum) else {
+            return Ok(());
+        };
+        let zero = self.leaving(sum, &places)?;
+        self.gone.note(work, sum, self.forms.len(), zero.len());
+        self.forms.push(zero)?;
+        Ok(())
+    }
+
+    // The sum that is 0 and leaves such atoms out of another one, where it begins with some.
+    fn leaving(&self, sum: &Form, places: &[usize]) -> Result<Form, Memory>
+        ensures { IfOk result (λ zero. (t : ProductsView) → AreZeros t self.now
+            → IsZero t zero) }
+    {
+        let begun = self.with_all(sum, places)?;
+        let normal = self.normal(&begun)?;
+        normal.plus(sum)
+    }
+
+    // A sum with those at some places.
+    fn with_all(&self, form: &Form, places: &[usize]) -> Result<Form, Memory>
+        ensures { IfOk result (λ sum. (t : ProductsView) → AreZeros t self.now
+            → AreEqualSums t form.now sum) }
+    {
+        let mut sum = form.copy()?;
+        for place in places {
+            let Some(zero) = self.at(*place) else {
+                return Ok(sum);
+            };
+            sum = sum.plus(zero)?;
+        }
+        Ok(sum)
     }
 
     /// Takes in what relations of the functions of a cut say.
