@@ -1,6 +1,6 @@
 // The products of a node as a quadratic form: half of its rank is how many it takes.
 use plan_tools::{Work, list_at, number, put};
-use symbol_graphs::{Affine, Graph, Opened, Step, SymbolProduct, SymbolSum};
+use symbol_graphs::{Affine, Graph, Opened, SymbolProduct, SymbolSum};
 
 // The most products and symbols of a node whose form is looked at, and the most independent sums
 // that its factors are of, since they are those of a window.
@@ -23,15 +23,7 @@ pub fn by_rank(graph: &mut Graph, work: &mut Work, node: u32) -> usize {
         return 0;
     };
     let gain = count.saturating_sub(made.products.len());
-    let mut change = made.copy(work);
-    change.add(work, sum);
-    graph.set(work, node, made);
-    let step = Step::Window {
-        target: node,
-        change,
-        opened,
-    };
-    graph.note(work, step);
+    graph.replace(work, node, made, opened);
     gain
 }
 

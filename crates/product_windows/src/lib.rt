@@ -2,18 +2,8 @@
 //! answers steps; of none of them anything is promised.
 #![tactic(auto)]
 
-mod claims;
-mod conjunctions;
-mod disjoint;
-mod grouping;
-mod growing;
-mod naming;
 mod passes;
-mod rewriting;
 mod search;
-mod simpler;
-mod vain;
 mod wide;
-mod windows;
 
 pub use search::propose;

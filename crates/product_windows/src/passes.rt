@@ -1,12 +1,11 @@
 // Passes over all nodes, until none gains.
-use crate::growing::grown;
-use crate::rewriting::{Gain, rewrite};
-use crate::vain::Vain;
 use crate::wide::vanish;
-use crate::windows::{Target, Width, Window};
+use graph_cleaning::clean;
 use plan_tools::Work;
 use product_rows::by_rank;
-use symbol_graphs::{GONE, Graph, clean};
+use symbol_graphs::{GONE, Graph, nodes_in_order};
+use symbol_windows::{Target, Width, Window, grown};
+use window_rewriting::{Gain, Vain, rewrite};
 
 /// In which order nodes are gone over.
 #[derive(Clone, Copy, PartialEq, Eq)]
@@ -116,7 +115,7 @@ fn pass(graph: &mut Graph, work: &mut Work, vain: &mut Vain, search: Search) -> 
     let mut simpler: usize = 0;
     let mut seen: usize = 0;
     let mut gained: usize = 0;
-    for node in &nodes_in_order(graph, work, search.order) {
+    for node in &nodes_of(graph, work, search.order) {
         let is_fruitless = seen >= FRUITLESS && gained == 0 && simpler == 0;
         if work.is_stopped() || work.spent() > search.most_units || is_fruitless {
             break;
@@ -129,20 +128,9 @@ fn pass(graph: &mut Graph, work: &mut Work, vain: &mut Vain, search: Search) -> 
     simpler
 }
 
-/// The nodes that are there, in an order.
-pub fn nodes_in_order(graph: &Graph, work: &mut Work, order: Order) -> Vec<u32> {
-    let mut places = Vec::new(work.alloc);
-    for node in 0..graph.nodes() {
-        let place = graph.node_place(node);
-        if place != GONE {
-            work.push(&mut places, (place, node));
-        }
-    }
-    work.note(places.sort());
-    let mut nodes = Vec::new(work.alloc);
-    for (_, node) in &places {
-        work.push(&mut nodes, *node);
-    }
+// The nodes that are there, in an order.
+fn nodes_of(graph: &Graph, work: &mut Work, order: Order) -> Vec<u32> {
+    let mut nodes = nodes_in_order(graph, work);
     if order == Order::Back {
         nodes.reverse();
     }

@@ -1,12 +1,12 @@
 // The search from both sides.
-use crate::disjoint::drop_disjoint;
-use crate::grouping::regroup;
 use crate::passes::{FEW_PRODUCTS, Order, settle};
-use crate::vain::Vain;
+use disjoint_products::drop_disjoint;
+use graph_cleaning::{clean, regroup};
 use plan_tools::{Stop, Work};
 use product_rows::{by_table, drop_needless};
 use std::alloc::Global;
-use symbol_graphs::{Graph, Proposal, Sums, SymbolSum, clean};
+use symbol_graphs::{Graph, Proposal, Sums, SymbolSum};
+use window_rewriting::Vain;
 
 // The most units that are spent, and how many more for each product. A unit is some 80 ns.
 const MOST_UNITS: u64 = 100_000_000;
@@ -31,7 +31,8 @@ pub fn propose(alloc: Global, sums: &Sums) -> Result<Proposal, Stop> {
     let mut work = Work::new(alloc, u64::MAX);
     let bounds = Bounds::of(sums);
     let mut vain = Vain::new(alloc);
-    let begun = Graph::of(&mut work, sums);
+    let mut begun = Graph::of(&mut work, sums);
+    clean(&mut begun, &mut work);
     let best = with_disjoint(&begun, &mut work, &mut vain, bounds);
     if best.products >= bounds.products && bounds.are_many() {
         work.finish(())?;
@@ -44,7 +45,6 @@ pub fn propose(alloc: Global, sums: &Sums) -> Result<Proposal, Stop> {
 // The better one of the searches with and without products whose factors never meet.
 fn with_disjoint(begun: &Graph, work: &mut Work, vain: &mut Vain, bounds: Bounds) -> Attempt {
     let mut graph = begun.copy(work);
-    clean(&mut graph, work);
     if !drop_disjoint(&mut graph, work) {
         return from_both_sides(begun, work, vain, bounds);
     }
@@ -55,12 +55,12 @@ fn with_disjoint(begun: &Graph, work: &mut Work, vain: &mut Vain, bounds: Bounds
 // The better one of the searches that begin from the inputs and from the outputs, of which the
 // second is left out where little was gained of much, or nothing is new.
 fn from_both_sides(begun: &Graph, work: &mut Work, vain: &mut Vain, bounds: Bounds) -> Attempt {
-    let mut forth = Attempt::new(begun.copy(work), work);
+    let mut forth = Attempt::new(begun.copy(work));
     forth.search(work, vain, Order::Forth, bounds);
     if bounds.is_fruitless(forth.products) {
         return forth;
     }
-    let mut back = Attempt::new(begun.copy(work), work);
+    let mut back = Attempt::new(begun.copy(work));
     let done = back.graph.done();
     back.prepare(work, bounds);
     if forth.products < forth.begun || back.graph.done() > done {
@@ -136,10 +136,8 @@ struct Attempt {
 }
 
 impl Attempt {
-    // The graph once it is clean.
-    fn new(graph: Graph, work: &mut Work) -> Attempt {
-        let mut graph = graph;
-        clean(&mut graph, work);
+    // A graph that is clean.
+    fn new(graph: Graph) -> Attempt {
         Attempt {
             begun: graph.count(),
             products: graph.count(),

@@ -1,9 +1,9 @@
 // Products that are a sum of what stays, in wide windows.
-use crate::rewriting::{Gain, cost_of, gone_nodes, put};
-use crate::windows::{Target, Width, Window};
 use plan_tools::Work;
 use product_rows::{CONSTANT, Echelon};
 use symbol_graphs::{Graph, Opened};
+use symbol_windows::{Target, Width, Window};
+use window_rewriting::{Gain, cost_of, gone_nodes};
 
 // How many turns the rows of a wide window are gone through in.
 const TURNS: u64 = 16;
@@ -101,5 +101,5 @@ fn take_out(graph: &mut Graph, work: &mut Work, target: &Target, window: Window,
         symbols: opened,
         sums: basis,
     };
-    put(graph, work, target.node, sum, opened);
+    graph.replace(work, target.node, sum, opened);
 }

@@ -1,6 +1,6 @@
 // The graph that is rewritten, and the steps that were done.
 use crate::steps::{Opened, Proposal, Step, Sums};
-use crate::sums::{SymbolProduct, SymbolSum};
+use crate::sums::{Affine, SymbolProduct, SymbolSum};
 use plan_tools::{Work, list_at, number, put};
 
 /// The place of a node that is not there.
@@ -25,6 +25,8 @@ pub struct Graph {
     /// The sums that nodes had when they were made, behind those of the program.
     more: Vec<SymbolSum>,
     steps: Vec<Step>,
+    /// How many steps were done when the nodes were numbered.
+    indexed: Option<usize>,
 }
 
 // The nodes that are outputs.
@@ -50,6 +52,7 @@ impl Graph {
             },
             more: Vec::new(work.alloc),
             steps: Vec::new(work.alloc),
+            indexed: None,
         };
         push_sums(work, &sums.nodes, &mut graph.sums);
         push_sums(work, &sums.outputs, &mut graph.sums);
@@ -60,18 +63,28 @@ impl Graph {
         graph
     }
 
-    /// The same graph, without places and users.
+    /// The same graph.
     pub fn copy(&self, work: &mut Work) -> Graph {
         Graph {
             inputs: self.inputs,
             sums: copies(work, &self.sums),
             keys: work.copy(&self.keys),
-            places: work.filled(GONE, self.sums.len()),
-            users: Vec::new(work.alloc),
+            places: work.copy(&self.places),
+            users: self.copied_users(work),
             outputs: self.outputs,
             more: copies(work, &self.more),
             steps: self.copied_steps(work),
+            indexed: self.indexed,
         }
+    }
+
+    fn copied_users(&self, work: &mut Work) -> Vec<Vec<u32>> {
+        let mut users = Vec::new(work.alloc);
+        for list in &self.users {
+            let list = work.copy(list);
+            work.push(&mut users, list);
+        }
+        users
     }
 
     fn copied_steps(&self, work: &mut Work) -> Vec<Step> {
@@ -93,6 +106,11 @@ impl Graph {
         } = self;
         steps.truncate(count);
         Proposal { more, steps, keys }
+    }
+
+    /// Whether no step was done since the nodes were numbered.
+    pub fn is_indexed(&self) -> bool {
+        self.indexed == Some(self.steps.len())
     }
 
     /// How many steps were done.
@@ -191,18 +209,24 @@ impl Graph {
             put(&mut self.places, *node, place);
             place = place.saturating_add(STRIDE);
         }
-        for node in order {
-            self.note_uses(work, *node);
+        for node in 0..self.nodes() {
+            self.note_uses(work, node);
         }
+        self.indexed = Some(self.steps.len());
     }
 
+    // Notes a node as the last user of its symbols.
     fn note_uses(&mut self, work: &mut Work, node: u32) {
-        let symbols = match self.sums.get(node as usize) {
-            Some(sum) => sum.symbols(work),
-            None => return,
+        if self.node_place(node) == GONE {
+            return;
+        }
+        let Some(sum) = self.sums.get(node as usize) else {
+            return;
         };
-        for symbol in &symbols {
-            self.add_user(work, *symbol, node);
+        note_user(work, &mut self.users, &sum.bits, node);
+        for product in &sum.products {
+            note_user(work, &mut self.users, &product.first, node);
+            note_user(work, &mut self.users, &product.second, node);
         }
     }
 
@@ -225,16 +249,16 @@ impl Graph {
         }
     }
 
-    /// Takes the sum of a node, which is 0 then.
-    pub fn take(&mut self, work: &mut Work, node: u32) -> SymbolSum {
+    // Takes the sum of a node, which is 0 then.
+    fn take(&mut self, work: &mut Work, node: u32) -> SymbolSum {
         match self.sums.get_mut(node as usize) {
             Some(sum) => sum.take(work.alloc),
             None => SymbolSum::zero(work.alloc),
         }
     }
 
-    /// Gives a node a sum, and notes nothing of it.
-    pub fn put(&mut self, node: u32, sum: SymbolSum) {
+    // Gives a node a sum, and notes nothing of it.
+    fn put(&mut self, node: u32, sum: SymbolSum) {
         put(&mut self.sums, node, sum);
     }
 
@@ -251,8 +275,37 @@ impl Graph {
         self.note(work, step);
     }
 
-    /// A step was done.
-    pub fn note(&mut self, work: &mut Work, step: Step) {
+    /// Adds what makes a node 0 to another one, and notes the step alone.
+    pub fn define(&mut self, work: &mut Work, target: u32, node: u32) {
+        if target == node {
+            return;
+        }
+        let mut sum = self.take(work, target);
+        sum.add_bits(work, &[self.symbol(node)]);
+        if let Some(definition) = self.sum(node) {
+            sum.add(work, definition);
+        }
+        self.put(target, sum);
+        self.note(work, Step::Definition { target, node });
+    }
+
+    /// Gives a node another sum of the same value.
+    pub fn replace(&mut self, work: &mut Work, target: u32, sum: SymbolSum, opened: Opened) {
+        let mut change = sum.copy(work);
+        if let Some(old) = self.sum(target) {
+            change.add(work, old);
+        }
+        self.set(work, target, sum);
+        let step = Step::Window {
+            target,
+            change,
+            opened,
+        };
+        self.note(work, step);
+    }
+
+    // A step was done.
+    fn note(&mut self, work: &mut Work, step: Step) {
         work.push(&mut self.steps, step);
     }
 
@@ -285,8 +338,29 @@ impl Graph {
         self.symbol(made)
     }
 
-    /// Gives a node another sum; nodes that nothing uses then are gone.
-    pub fn set(&mut self, work: &mut Work, node: u32, sum: SymbolSum) {
+    /// A new node with a product, right before a node, and opened; its symbol, and the constant
+    /// that the product has beside it.
+    pub fn push_product(
+        &mut self,
+        work: &mut Work,
+        node: u32,
+        first: &Affine,
+        second: &Affine,
+        opened: &mut Opened,
+    ) -> Affine {
+        let mut sum = SymbolSum::zero(work.alloc);
+        sum.add_product(work, first, second);
+        let one = sum.one;
+        sum.one = false;
+        let symbol = self.push_before(work, sum, node);
+        opened.open(work, symbol);
+        let mut name = Affine::symbol(work, symbol);
+        name.one = one;
+        name
+    }
+
+    // Gives a node another sum; nodes that nothing uses then are gone.
+    fn set(&mut self, work: &mut Work, node: u32, sum: SymbolSum) {
         let old = self.take(work, node).symbols(work);
         let new = sum.symbols(work);
         self.put(node, sum);
@@ -335,6 +409,17 @@ impl Graph {
             self.remove_user(*symbol, node);
         }
         work.append(left, &symbols);
+    }
+}
+
+// Appends a node to the users of symbols, unless it stands there.
+fn note_user(work: &mut Work, users: &mut [Vec<u32>], symbols: &[u32], node: u32) {
+    for symbol in symbols {
+        if let Some(list) = users.get_mut(*symbol as usize)
+            && list.last() != Some(&node)
+        {
+            work.push(list, node);
+        }
     }
 }
 

@@ -2,13 +2,12 @@
 //! change as a step. Of none of them anything is promised.
 #![tactic(auto)]
 
-mod cleaning;
 mod graph;
-mod joining;
+mod order;
 mod steps;
 mod sums;
 
-pub use cleaning::{clean, define, drop_zeros, order_of};
 pub use graph::{GONE, Graph};
+pub use order::{nodes_in_order, order_of};
 pub use steps::{Opened, Proposal, Step, Sums};
-pub use sums::{Affine, SymbolProduct, SymbolSum};
+pub use sums::{Affine, SymbolProduct, SymbolSum, mixed};

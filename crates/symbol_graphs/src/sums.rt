@@ -29,6 +29,14 @@ impl SymbolProduct {
         }
     }
 
+    /// Whether it stands for its plane: of the sums in that its factors are the least.
+    pub fn is_least(&self, work: &mut Work) -> bool {
+        let sum = work.sum_of(&self.first, &self.second);
+        is_less(&self.first, &sum)
+            && is_less(&self.second, &sum)
+            && comes_first(&self.first, &self.second)
+    }
+
     /// How many symbols both factors have.
     pub fn size(&self) -> usize {
         self.first.len().saturating_add(self.second.len())
@@ -190,6 +198,9 @@ impl SymbolSum {
     /// All symbols that it has, falling.
     pub fn symbols(&self, work: &mut Work) -> Vec<u32> {
         let mut symbols = work.copy(&self.bits);
+        if self.products.is_empty() {
+            return symbols;
+        }
         for product in &self.products {
             work.append(&mut symbols, &product.first);
             work.append(&mut symbols, &product.second);
@@ -214,8 +225,8 @@ impl SymbolSum {
     }
 }
 
-/// Whether a set of symbols has fewer than another one, or as many and comes first.
-pub fn is_less(a: &[u32], b: &[u32]) -> bool {
+// Whether a set of symbols has fewer than another one, or as many and comes first.
+fn is_less(a: &[u32], b: &[u32]) -> bool {
     a.len() < b.len() || a.len() == b.len() && a < b
 }
 

@@ -177,6 +177,7 @@ impl Window {
             is_linear: true,
         };
         let mut plain = Vec::new(work.alloc);
+        work.note(plain.reserve(symbols.len()));
         for symbol in symbols {
             match self.known(*symbol) {
                 Some(known) => {

@@ -1,5 +1,4 @@
 // Products of several sums, as trees of nodes that are products of two.
-use crate::rewriting::{product_node, put};
 use plan_tools::{Table, Work, number};
 use symbol_graphs::{Affine, Graph, Opened, SymbolSum};
 
@@ -320,7 +319,7 @@ impl Conjunction {
             self.parts.get(first as usize)?,
             self.parts.get(second as usize)?,
         );
-        let sum = product_node(graph, work, before, &x.sum, &y.sum, opened);
+        let sum = graph.push_product(work, before, &x.sum, &y.sum, opened);
         let node = graph.node(*sum.bits.first()?)?;
         let place = self.push(work, sum);
         let part = self.parts.get_mut(place as usize)?;
@@ -346,7 +345,7 @@ impl Conjunction {
         let mut sum = SymbolSum::zero(work.alloc);
         sum.add_product(work, &a.sum, &b.sum);
         sum.one = sum.one != part.sum.one;
-        put(graph, work, part.node, sum, opened);
+        graph.replace(work, part.node, sum, opened);
         self.parts.get_mut(place as usize)?.inside = Some(inside);
         Some(())
     }

@@ -1,9 +1,6 @@
 // Nodes that stand in the same sums become one node, which is the sum of them.
-use crate::cleaning::define;
-use crate::graph::Graph;
-use crate::steps::Opened;
-use crate::sums::{Affine, SymbolProduct, SymbolSum};
 use plan_tools::{Table, Work, number};
+use symbol_graphs::{Affine, Graph, Opened, SymbolProduct, SymbolSum};
 
 /// Makes nodes that are always added to each other one node; whether there were some. The nodes
 /// stand in an order in which operands come first.
@@ -145,7 +142,7 @@ impl Joined {
             if let Some(group) = self.group(graph, *symbol)
                 && let Some(joined) = graph.node(group.joined)
             {
-                define(graph, work, node, joined);
+                graph.define(work, node, joined);
             }
         }
     }

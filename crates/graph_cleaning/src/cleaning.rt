@@ -1,11 +1,9 @@
 // Nodes that are short sums, or are used once in a sum, go into their users; equal nodes, equal
 // products and nodes that are always added to each other become one.
-use crate::graph::Graph;
 use crate::joining::join_nodes;
-use crate::steps::{Opened, Step};
-use crate::sums::{Affine, SymbolProduct, SymbolSum, mixed};
 use plan_tools::{Table, Work};
 use std::collections::BTreeMap;
+use symbol_graphs::{Affine, Graph, Opened, SymbolProduct, SymbolSum, mixed, order_of};
 
 // How often it is cleaned at most, one time after another.
 const MOST_TIMES: usize = 3;
@@ -16,24 +14,38 @@ const SHORT_BITS: usize = 4;
 // The most products of a sum that goes into its only user.
 const MOST_MOVED: usize = 64;
 
-/// Cleans the graph until nothing changes, and numbers its nodes.
+/// Cleans the graph until nothing changes, and numbers its nodes; a graph in which nothing was done
+/// since then is left as it is.
 pub fn clean(graph: &mut Graph, work: &mut Work) {
+    if graph.is_indexed() {
+        return;
+    }
+    let mut order = order_of(graph, work);
     for _ in 0..MOST_TIMES {
         let done = graph.done();
-        let mut order = order_of(graph, work);
         if join_nodes(graph, work, &order) {
             order = order_of(graph, work);
         }
-        let mut cleaning = Cleaning::new(graph, work, &order);
-        cleaning.clean_nodes(graph, work, &order);
-        let order = order_of(graph, work);
+        clean_nodes(graph, work, &mut order);
         share_products(graph, work, &order);
         if graph.done() == done {
             break;
         }
+        order = order_of(graph, work);
     }
-    let order = order_of(graph, work);
     graph.index(work, &order);
+}
+
+// Cleans all nodes, one after another.
+fn clean_nodes(graph: &mut Graph, work: &mut Work, order: &mut Vec<u32>) {
+    let done = graph.done();
+    let mut cleaning = Cleaning::new(graph, work, order);
+    for node in order.iter() {
+        cleaning.clean_node(graph, work, *node);
+    }
+    if graph.done() > done {
+        *order = order_of(graph, work);
+    }
 }
 
 /// Takes nodes that are 0 out of their users, and changes nothing else.
@@ -45,62 +57,6 @@ pub fn drop_zeros(graph: &mut Graph, work: &mut Work) {
         cleaning.move_factors(graph, work, *node);
         let is_zero = graph.sum(*node).is_some_and(|sum| sum.is_zero());
         cleaning.is_moved.set(*node, is_zero);
-    }
-}
-
-// ---- order
-
-/// The nodes that outputs rest on, and the outputs, operands first.
-pub fn order_of(graph: &Graph, work: &mut Work) -> Vec<u32> {
-    let mut seen = Table::new(work, graph.nodes() as usize, false);
-    let mut order = Vec::new(work.alloc);
-    for output in graph.outputs() {
-        push_below(graph, work, output, &mut seen, &mut order);
-    }
-    order
-}
-
-// Appends a node behind all nodes that it rests on.
-fn push_below(
-    graph: &Graph,
-    work: &mut Work,
-    root: u32,
-    seen: &mut Table<bool>,
-    order: &mut Vec<u32>,
-) {
-    let mut stack = Vec::new(work.alloc);
-    work.push(&mut stack, (root, false));
-    for _ in 0..u32::MAX {
-        let Some((node, is_done)) = stack.pop() else {
-            return;
-        };
-        if is_done {
-            work.push(order, node);
-        } else if !seen.get(node) {
-            seen.set(node, true);
-            work.push(&mut stack, (node, true));
-            push_operands(graph, work, node, seen, &mut stack);
-        }
-    }
-}
-
-fn push_operands(
-    graph: &Graph,
-    work: &mut Work,
-    node: u32,
-    seen: &Table<bool>,
-    stack: &mut Vec<(u32, bool)>,
-) {
-    let symbols = match graph.sum(node) {
-        Some(sum) => sum.symbols(work),
-        None => return,
-    };
-    for symbol in &symbols {
-        if let Some(operand) = graph.node(*symbol)
-            && !seen.get(operand)
-        {
-            work.push(stack, (operand, false));
-        }
     }
 }
 
@@ -155,26 +111,36 @@ impl Cleaning {
         }
     }
 
-    fn clean_nodes(&mut self, graph: &mut Graph, work: &mut Work, order: &[u32]) {
-        for node in order {
-            self.move_bits(graph, work, *node);
-            self.move_factors(graph, work, *node);
-            self.take_singles(graph, work, *node);
-            self.place(graph, work, *node);
+    fn clean_node(&mut self, graph: &mut Graph, work: &mut Work, node: u32) {
+        self.move_bits(graph, work, node);
+        self.move_factors(graph, work, node);
+        self.take_singles(graph, work, node);
+        self.place(graph, work, node);
+    }
+
+    // Whether a node among these symbols goes into its users.
+    fn are_moved(&self, graph: &Graph, symbols: &[u32]) -> bool {
+        for symbol in symbols {
+            if let Some(node) = graph.node(*symbol)
+                && self.is_moved.get(node)
+            {
+                return true;
+            }
         }
+        false
     }
 
     // The sums of bits that are moved go into a node.
     fn move_bits(&self, graph: &mut Graph, work: &mut Work, node: u32) {
         let bits = match graph.sum(node) {
-            Some(sum) => work.copy(&sum.bits),
-            None => return,
+            Some(sum) if self.are_moved(graph, &sum.bits) => work.copy(&sum.bits),
+            _ => return,
         };
         for symbol in &bits {
             if let Some(part) = graph.node(*symbol)
                 && self.is_moved.get(part)
             {
-                define(graph, work, node, part);
+                graph.define(work, node, part);
             }
         }
     }
@@ -183,12 +149,20 @@ impl Cleaning {
     fn move_factors(&self, graph: &mut Graph, work: &mut Work, node: u32) {
         let mut products = Vec::new(work.alloc);
         for product in graph.products(node) {
-            let product = product.copy(work);
-            work.push(&mut products, product);
+            if self.is_changed(graph, work, product) {
+                let product = product.copy(work);
+                work.push(&mut products, product);
+            }
         }
         for product in products {
             self.move_factor(graph, work, node, product);
         }
+    }
+
+    fn is_changed(&self, graph: &Graph, work: &mut Work, product: &SymbolProduct) -> bool {
+        self.are_moved(graph, &product.first)
+            || self.are_moved(graph, &product.second)
+            || !product.is_least(work)
     }
 
     fn move_factor(&self, graph: &mut Graph, work: &mut Work, node: u32, old: SymbolProduct) {
@@ -238,7 +212,7 @@ impl Cleaning {
             }
         }
         for other in &found {
-            define(graph, work, node, *other);
+            graph.define(work, node, *other);
         }
     }
 
@@ -253,7 +227,7 @@ impl Cleaning {
         }
         let mark = sum.mark();
         if let Some(other) = self.known.get(&mark).copied() {
-            define(graph, work, node, other);
+            graph.define(work, node, other);
             self.is_moved.set(node, true);
             return;
         }
@@ -273,21 +247,6 @@ impl Cleaning {
     }
 }
 
-/// Adds what makes a node 0 to another one.
-pub fn define(graph: &mut Graph, work: &mut Work, target: u32, node: u32) {
-    if target == node {
-        return;
-    }
-    let symbol = graph.symbol(node);
-    let mut sum = graph.take(work, target);
-    sum.add_bits(work, &[symbol]);
-    if let Some(definition) = graph.sum(node) {
-        sum.add(work, definition);
-    }
-    graph.put(target, sum);
-    graph.note(work, Step::Definition { target, node });
-}
-
 fn mark_of(product: &SymbolProduct) -> u64 {
     mixed(mixed(7, &product.first), &product.second)
 }
@@ -296,35 +255,57 @@ fn mark_of(product: &SymbolProduct) -> u64 {
 
 // A product that stands in two sums becomes a node.
 fn share_products(graph: &mut Graph, work: &mut Work, order: &[u32]) {
-    let mut counts = BTreeMap::new(work.alloc);
-    for node in order {
-        count_products(graph, work, *node, &mut counts);
+    let shared = shared_marks(graph, work, order);
+    if shared.is_empty() {
+        return;
     }
     let mut nodes = BTreeMap::new(work.alloc);
     for node in order {
-        note_single(graph, work, *node, &mut nodes);
+        note_single(graph, work, *node, &shared, &mut nodes);
     }
     for node in order {
-        share(graph, work, *node, &counts, &mut nodes);
+        share(graph, work, *node, &shared, &mut nodes);
     }
 }
 
-fn count_products(graph: &Graph, work: &mut Work, node: u32, counts: &mut BTreeMap<u64, bool>) {
-    for product in graph.products(node) {
-        let mark = mark_of(product);
-        let was_there = counts.get(&mark).is_some();
-        work.note(counts.insert(mark, was_there));
+// The marks that several products have, rising.
+fn shared_marks(graph: &Graph, work: &mut Work, order: &[u32]) -> Vec<u64> {
+    let mut marks = Vec::new(work.alloc);
+    for node in order {
+        for product in graph.products(*node) {
+            work.push(&mut marks, mark_of(product));
+        }
     }
+    work.note(marks.sort());
+    let mut shared = Vec::new(work.alloc);
+    let mut last = None;
+    for mark in &marks {
+        if last == Some(*mark) {
+            work.push(&mut shared, *mark);
+        }
+        last = Some(*mark);
+    }
+    shared
 }
 
-// Notes a node that is one product.
-fn note_single(graph: &Graph, work: &mut Work, node: u32, nodes: &mut BTreeMap<u64, u32>) {
-    if let Some(sum) = graph.sum(node)
-        && let [product] = sum.products.as_slice()
+// Notes a node that is one such product.
+fn note_single(
+    graph: &Graph,
+    work: &mut Work,
+    node: u32,
+    shared: &[u64],
+    nodes: &mut BTreeMap<u64, u32>,
+) {
+    let Some(sum) = graph.sum(node) else {
+        return;
+    };
+    if let [product] = sum.products.as_slice()
         && sum.bits.is_empty()
-        && nodes.get(&mark_of(product)).is_none()
     {
-        work.note(nodes.insert(mark_of(product), node));
+        let mark = mark_of(product);
+        if shared.binary_search(&mark).is_ok() && nodes.get(&mark).is_none() {
+            work.note(nodes.insert(mark, node));
+        }
     }
 }
 
@@ -333,17 +314,17 @@ fn share(
     graph: &mut Graph,
     work: &mut Work,
     node: u32,
-    counts: &BTreeMap<u64, bool>,
+    shared: &[u64],
     nodes: &mut BTreeMap<u64, u32>,
 ) {
-    let mut shared = Vec::new(work.alloc);
+    let mut products = Vec::new(work.alloc);
     for product in graph.products(node) {
-        if counts.get(&mark_of(product)).copied() == Some(true) {
+        if shared.binary_search(&mark_of(product)).is_ok() {
             let product = product.copy(work);
-            work.push(&mut shared, product);
+            work.push(&mut products, product);
         }
     }
-    for product in shared {
+    for product in products {
         share_one(graph, work, node, product, nodes);
     }
 }
@@ -357,12 +338,12 @@ fn share_one(
 ) {
     let mark = mark_of(&product);
     if let Some(other) = nodes.get(&mark).copied() {
-        define(graph, work, node, other);
+        graph.define(work, node, other);
         return;
     }
     let mut sum = SymbolSum::zero(work.alloc);
     sum.toggle(work, product);
     let made = graph.push(work, sum, graph.key(node));
     work.note(nodes.insert(mark, made));
-    define(graph, work, node, made);
+    graph.define(work, node, made);
 }

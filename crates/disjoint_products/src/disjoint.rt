@@ -1,9 +1,10 @@
 // Products whose factors never meet, in graphs of any number of inputs. What samples of rows claim
 // is put down to claims of earlier symbols, window by window, until windows alone tell.
 use crate::claims::{Claim, Claims};
+use graph_cleaning::{clean, drop_zeros};
 use plan_tools::Work;
 use product_rows::Rows;
-use symbol_graphs::{Affine, Graph, Opened, SymbolSum, clean, define, drop_zeros, order_of};
+use symbol_graphs::{Affine, Graph, Opened, SymbolSum, order_of};
 
 // The most words of samples of all symbols, and the most and the fewest of one.
 const MOST_WORDS: usize = 1 << 20;
@@ -61,7 +62,7 @@ fn take_out_all(graph: &mut Graph, work: &mut Work, claims: &Claims) {
 
 fn take_out(graph: &mut Graph, work: &mut Work, claim: &Claim) {
     for user in &claim.users {
-        define(graph, work, *user, claim.node);
+        graph.define(work, *user, claim.node);
     }
 }
 

@@ -1,8 +1,7 @@
 // Products of three and more sums are multiplied in another order: first those of common symbols.
 use crate::conjunctions::Conjunction;
-use crate::passes::{Order, nodes_in_order};
 use plan_tools::{Table, Work, number};
-use symbol_graphs::Graph;
+use symbol_graphs::{Graph, nodes_in_order};
 
 // How far below a factor the symbols are that it is said to rest on, and the most of them.
 const LEVELS: usize = 2;
@@ -12,7 +11,7 @@ const MOST_SYMBOLS: usize = 8;
 /// Groups the factors of all products of three and more sums anew.
 pub fn regroup(graph: &mut Graph, work: &mut Work) {
     let mut is_inner = Table::new(work, graph.nodes() as usize, false);
-    for node in &nodes_in_order(graph, work, Order::Back) {
+    for node in nodes_in_order(graph, work).iter().rev() {
         if is_inner.get(*node) {
             continue;
         }

@@ -1,7 +1,7 @@
 // What there is in a window once the nodes that go are gone, and by which symbols it is called.
-use crate::windows::{Known, Window};
 use plan_tools::Work;
 use symbol_graphs::{Affine, Graph, SymbolSum};
+use symbol_windows::{Known, Window};
 use window_programs::{ONE, Span, VARIABLES, has, mask_of, word_of};
 
 // The most words that there are.

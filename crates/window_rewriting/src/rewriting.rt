@@ -2,9 +2,9 @@
 use crate::naming::Names;
 use crate::simpler::simpler;
 use crate::vain::{Vain, mark_of};
-use crate::windows::{Target, Window, has_symbol};
 use plan_tools::Work;
-use symbol_graphs::{Affine, Graph, Opened, Step, SymbolProduct, SymbolSum};
+use symbol_graphs::{Affine, Graph, Opened, SymbolProduct, SymbolSum};
+use symbol_windows::{Target, Window, has_symbol};
 use window_programs::{ONE, Program, bit, from_variables, has, is_easy, mask_of, program_for};
 
 /// What a rewriting gained.
@@ -46,9 +46,9 @@ pub fn rewrite(
     }
 }
 
-// A target, what is gone once it is rewritten, and what stays.
+/// A target, what is gone once it is rewritten, and what stays.
 #[derive(Drop)]
-struct Rewriting {
+pub struct Rewriting {
     window: Window,
     /// How many products it and the nodes that are gone have.
     cost: usize,
@@ -64,15 +64,28 @@ struct Rewriting {
 impl Rewriting {
     fn of(graph: &Graph, work: &mut Work, target: &Target, window: Window) -> Rewriting {
         let gone = gone_nodes(graph, work, target, &window, false);
+        let cost = cost_of(graph, target, &gone);
+        Rewriting::without(graph, work, target, window, &gone, cost)
+    }
+
+    /// That of a target without some nodes of its window, with fewer products than so many.
+    pub fn without(
+        graph: &Graph,
+        work: &mut Work,
+        target: &Target,
+        window: Window,
+        gone: &[u32],
+        cost: usize,
+    ) -> Rewriting {
         let mut rest = SymbolSum::zero(work.alloc);
         let mut goal = window.own;
         if let Some(sum) = graph.sum(target.node) {
             rest.one = sum.one;
-            goal ^= add_rest(work, target, &window, &gone, sum, &mut rest);
+            goal ^= add_rest(work, target, &window, gone, sum, &mut rest);
         }
-        let names = Names::of(graph, work, &window, &gone);
+        let names = Names::of(graph, work, &window, gone);
         Rewriting {
-            cost: cost_of(graph, target, &gone),
+            cost,
             rest,
             goal,
             names,
@@ -81,8 +94,8 @@ impl Rewriting {
         }
     }
 
-    // A program for the goal, and whether it has as many products as before.
-    fn program(
+    /// A program for the goal, and whether it has as many products as before.
+    pub fn program(
         &self,
         work: &mut Work,
         vain: &mut Vain,
@@ -148,8 +161,8 @@ impl Rewriting {
         }
     }
 
-    // Gives the target its new sum.
-    fn apply(self, graph: &mut Graph, work: &mut Work, target: &Target, program: &Program) {
+    /// Gives the target its new sum.
+    pub fn apply(self, graph: &mut Graph, work: &mut Work, target: &Target, program: &Program) {
         let Rewriting {
             window,
             rest,
@@ -168,7 +181,7 @@ impl Rewriting {
             let second = names.affine(work, *b);
             let at = count.saturating_add(place);
             let name = if is_inner(program, at) {
-                product_node(graph, work, target.node, &first, &second, &mut opened)
+                graph.push_product(work, target.node, &first, &second, &mut opened)
             } else {
                 if has(program.out & !ONE, at) {
                     made.add_product(work, &first, &second);
@@ -180,7 +193,7 @@ impl Rewriting {
         let bits = names.sum(work, program.out);
         made.add_affine(work, &bits);
         names.shorten(work, &mut made);
-        put(graph, work, target.node, made, opened);
+        graph.replace(work, target.node, made, opened);
     }
 }
 
@@ -193,41 +206,6 @@ fn is_inner(program: &Program, place: usize) -> bool {
         .products
         .iter()
         .any(|(a, b)| (*a | *b) & !ONE & bit(place) != 0)
-}
-
-/// A new node with a product; its symbol, and the constant that the product has beside it.
-pub fn product_node(
-    graph: &mut Graph,
-    work: &mut Work,
-    target: u32,
-    first: &Affine,
-    second: &Affine,
-    opened: &mut Opened,
-) -> Affine {
-    let mut sum = SymbolSum::zero(work.alloc);
-    sum.add_product(work, first, second);
-    let one = sum.one;
-    sum.one = false;
-    let symbol = graph.push_before(work, sum, target);
-    opened.open(work, symbol);
-    let mut name = Affine::symbol(work, symbol);
-    name.one = one;
-    name
-}
-
-/// Gives a node another sum of the same value.
-pub fn put(graph: &mut Graph, work: &mut Work, target: u32, sum: SymbolSum, opened: Opened) {
-    let mut change = sum.copy(work);
-    if let Some(old) = graph.sum(target) {
-        change.add(work, old);
-    }
-    graph.set(work, target, sum);
-    let step = Step::Window {
-        target,
-        change,
-        opened,
-    };
-    graph.note(work, step);
 }
 
 // ---- what goes and what stays

@@ -1,11 +1,10 @@
 // Claims that two sums never meet, by samples of rows, and windows that put one down to others.
-use crate::growing::best_grown;
-use crate::windows::{Target, Width, Window};
 use plan_tools::{Work, number};
 use product_rows::Rows;
 use std::alloc::Global;
 use std::collections::BTreeMap;
 use symbol_graphs::{Affine, Graph, Opened, SymbolProduct, SymbolSum};
+use symbol_windows::{Target, Width, Window, best_grown};
 
 // The most claims, the most nodes that are opened for one, and the most claims that it rests on.
 const MOST_CLAIMS: usize = 2_000;
