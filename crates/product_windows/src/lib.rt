@@ -2,6 +2,7 @@
 //! answers steps; of none of them anything is promised.
 #![tactic(auto)]
 
+mod pairing;
 mod passes;
 mod search;
 mod wide;

@@ -1,4 +1,5 @@
 // The search from both sides.
+use crate::pairing::pair_up;
 use crate::passes::{FEW_PRODUCTS, Order, settle};
 use disjoint_products::drop_disjoint;
 use graph_cleaning::{clean, regroup};
@@ -16,12 +17,15 @@ const UNITS_A_PRODUCT: u64 = 4_000;
 // How often the order is turned at most.
 const MOST_TURNS: usize = 6;
 
+// How often sums are put in the place of two nodes at most.
+const MOST_ROUNDS: usize = 16;
+
 // A turn gains where it takes away more than one product in so many.
 const LEAST_GAIN: usize = 50;
 
 /// Steps that leave a graph of sums with fewer products, so far as some are found: from the inputs,
-/// and from the outputs, each in turns with the other, as long as that gains; and from a table of
-/// the outputs.
+/// and from the outputs, each in turns with the other, as long as that gains; from a table of the
+/// outputs; and with sums in the place of two nodes.
 ///
 /// # Errors
 ///
@@ -38,7 +42,14 @@ pub fn propose(alloc: Global, sums: &Sums) -> Result<Proposal, Stop> {
         work.finish(())?;
         return Err(Stop::GaveUp);
     }
+    let paired = with_pairs(
+        Attempt::new(begun.copy(&mut work)),
+        &mut work,
+        &mut vain,
+        bounds,
+    );
     let best = with_table(begun, &mut work, &mut vain, bounds, best);
+    let best = with_pairs(best, &mut work, &mut vain, bounds).better(paired);
     work.finish(best.into_proposal())
 }
 
@@ -86,6 +97,22 @@ fn with_table(
         return best;
     }
     best.better(from_both_sides(&graph, work, vain, bounds))
+}
+
+// The same with sums in the place of two nodes, as long as that gains.
+fn with_pairs(begun: Attempt, work: &mut Work, vain: &mut Vain, bounds: Bounds) -> Attempt {
+    let mut best = begun;
+    for _ in 0..MOST_ROUNDS {
+        let mut next = best.copy(work);
+        if bounds.is_fruitless(best.products) || !next.pair_up(work, vain, bounds.units) {
+            break;
+        }
+        if next.products >= best.products {
+            break;
+        }
+        best = next;
+    }
+    best
 }
 
 // How many products there were before anything was done, and the units that may be spent.
@@ -144,6 +171,32 @@ impl Attempt {
             steps: graph.done(),
             graph,
         }
+    }
+
+    fn copy(&self, work: &mut Work) -> Attempt {
+        Attempt {
+            graph: self.graph.copy(work),
+            begun: self.begun,
+            products: self.products,
+            steps: self.steps,
+        }
+    }
+
+    // Puts sums in the place of two nodes, and looks for fewer products then; whether there were
+    // such nodes.
+    fn pair_up(&mut self, work: &mut Work, vain: &mut Vain, most_units: u64) -> bool {
+        if pair_up(&mut self.graph, work, vain, most_units) == 0 {
+            return false;
+        }
+        self.settle_both(work, vain, most_units);
+        true
+    }
+
+    // A plateau from the outputs, then one from the inputs.
+    fn settle_both(&mut self, work: &mut Work, vain: &mut Vain, most_units: u64) {
+        clean(&mut self.graph, work);
+        self.settle(work, vain, Order::Back, most_units);
+        self.settle(work, vain, Order::Forth, most_units);
     }
 
     // Plateaus in both orders, as long as they gain.

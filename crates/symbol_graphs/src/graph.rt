@@ -402,6 +402,14 @@ impl Graph {
         }
     }
 
+    /// Takes a node out again that nothing uses.
+    pub fn forget(&mut self, work: &mut Work, symbol: u32) {
+        if let Some(node) = self.node(symbol) {
+            let mut left = Vec::new(work.alloc);
+            self.remove(work, node, &mut left);
+        }
+    }
+
     fn remove(&mut self, work: &mut Work, node: u32, left: &mut Vec<u32>) {
         put(&mut self.places, node, GONE);
         let symbols = self.take(work, node).symbols(work);
