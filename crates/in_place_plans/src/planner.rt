@@ -199,7 +199,9 @@ impl<'t> Planner<'t> {
             }
         }
         self.space = ending.into_space();
-        self.drop_lost(work);
+        if let Moments::Least(_) = self.moments {
+            self.drop_lost(work);
+        }
     }
 
     // Forgets the held steps whose products are not there any more.
