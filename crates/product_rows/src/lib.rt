@@ -12,5 +12,5 @@ mod tables;
 pub use echelon::{CONSTANT, Echelon};
 pub use needless::drop_needless;
 pub use quadratic::by_rank;
-pub use rows::Rows;
+pub use rows::{Rows, add, give};
 pub use tables::by_table;

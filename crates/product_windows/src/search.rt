@@ -5,6 +5,7 @@ use disjoint_products::drop_disjoint;
 use graph_cleaning::{clean, regroup};
 use plan_tools::{Stop, Work};
 use product_rows::{by_table, drop_needless};
+use row_networks::by_network;
 use std::alloc::Global;
 use symbol_graphs::{Graph, Proposal, Sums, SymbolSum};
 use window_rewriting::Vain;
@@ -23,9 +24,12 @@ const MOST_ROUNDS: usize = 16;
 // A turn gains where it takes away more than one product in so many.
 const LEAST_GAIN: usize = 50;
 
+// What is made anew by all rows of few inputs is taken where one product in so many goes.
+const LEAST_GAIN_BY_ROWS: usize = 20;
+
 /// Steps that leave a graph of sums with fewer products, so far as some are found: from the inputs,
 /// and from the outputs, each in turns with the other, as long as that gains; from a table of the
-/// outputs; and with sums in the place of two nodes.
+/// outputs; with sums in the place of two nodes; and by all rows of few inputs.
 ///
 /// # Errors
 ///
@@ -50,6 +54,7 @@ pub fn propose(alloc: Global, sums: &Sums) -> Result<Proposal, Stop> {
     );
     let best = with_table(begun, &mut work, &mut vain, bounds, best);
     let best = with_pairs(best, &mut work, &mut vain, bounds).better(paired);
+    let best = with_network(best, &mut work, &mut vain, bounds);
     work.finish(best.into_proposal())
 }
 
@@ -113,6 +118,22 @@ fn with_pairs(begun: Attempt, work: &mut Work, vain: &mut Vain, bounds: Bounds) 
         best = next;
     }
     best
+}
+
+// The same once products are made anew by the values in all rows of few inputs, where that takes
+// more than a few away: it shares less, which costs plans lines and gates.
+fn with_network(begun: Attempt, work: &mut Work, vain: &mut Vain, bounds: Bounds) -> Attempt {
+    let mut next = begun.copy(work);
+    if !by_network(&mut next.graph, work) {
+        return begun;
+    }
+    next.settle_both(work, vain, bounds.units);
+    let most = begun.products.saturating_mul(LEAST_GAIN_BY_ROWS - 1);
+    if next.products.saturating_mul(LEAST_GAIN_BY_ROWS) <= most {
+        next
+    } else {
+        begun
+    }
 }
 
 // How many products there were before anything was done, and the units that may be spent.
