@@ -142,6 +142,11 @@ impl Guide {
         self.space.has(work, &made.first) && self.space.has(work, &made.second)
     }
 
+    /// Whether a sum of this mark and with this last atom may be one of functions.
+    pub fn may_read(&self, work: &mut Work, last: u32, mark: &Vector) -> bool {
+        self.reader.has(last) && self.space.has(work, mark)
+    }
+
     /// The atoms that may be functions and are none yet: those that the walk to the cut opened, and
     /// at first step by step the users of these and of the leads, later those that were made since
     /// the last call.

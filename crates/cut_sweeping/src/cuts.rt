@@ -8,10 +8,14 @@ ghost use Rattle.cut_sweeping.specs.inside.Regions.{AreRegions};
 use crate::gone::Gone;
 use crate::met::Met;
 use crate::reach::Reach;
-use crate::regions::{Region, begun, is_zero_over, join_all, product_over, take_out};
+use crate::regions::{
+    Region, Sought, begun, is_zero_over, join_all, product_over, take_home, take_out,
+};
 use crate::wide::{Effort, ON_THE_WAY, is_zero_widely};
 use crate::zeros::Zeros;
-use cut_search::{Atoms, Basis, Guide, Member, NEAR, Place, Range, Scene, places_of};
+use cut_search::{
+    Atoms, Basis, Guide, Member, NEAR, Place, Range, Scene, last_atom, mark_of, places_of,
+};
 use linear_forms::Form;
 use plan_tools::{Stop, Work};
 use product_sums::Products;
@@ -26,6 +30,12 @@ const MOST_FUNCTIONS: usize = 200_000;
 
 /// Of a sum from which cuts are looked for, each atom counts as so many units.
 const UNITS_FOR_ATOM: u64 = 8;
+
+// What a cut that was met before tells of a product.
+#[derive(Drop)]
+struct Home {
+    product: Option<Form>,
+}
 
 /// Cuts that were met, and what they told.
 #[derive(Drop)]
@@ -85,6 +95,9 @@ impl Cuts {
         ensures product { IfOk result (λ found. IfSome found
             (IsProduct products.now first.now second.now)) }
     {
+        if let Some(home) = self.product_at_home(products, first, second)? {
+            return Ok(home.product);
+        }
         let places = tried(
             &mut self.work,
             products,
@@ -99,6 +112,43 @@ impl Cuts {
         }
         self.refused()?;
         Ok(None)
+    }
+
+    // The product over a cut that was met before, over which both are known, if there is one.
+    fn product_at_home(
+        &mut self,
+        products: &Products,
+        first: &Form,
+        second: &Form,
+    ) -> Result<Option<Home>, Memory>
+        requires { HoldsCuts products.now self.old }
+        ensures cuts { HoldsCuts products.now self.new }
+        ensures product { IfOk result (λ found. IfSome found (λ home. IfSome home.product
+            (IsProduct products.now first.now second.now))) }
+    {
+        if self.work.is_stopped() {
+            return Ok(None);
+        }
+        let (Some(one), Some(other)) = (last_atom(first), last_atom(second)) else {
+            return Ok(None);
+        };
+        let sums = [
+            Sought {
+                mark: mark_of(&mut self.work, first),
+                last: one,
+            },
+            Sought {
+                mark: mark_of(&mut self.work, second),
+                last: other,
+            },
+        ];
+        let Some(mut region) = take_home(&mut self.work, &mut self.regions, sums) else {
+            return Ok(None);
+        };
+        self.refresh(products, &mut region, &[])?;
+        let sum = product_over(&mut self.work, &region, first, second)?;
+        self.keep(region)?;
+        Ok(Some(Home { product: sum }))
     }
 
     fn product_at(
@@ -206,19 +256,34 @@ impl Cuts {
         let Some(mut region) = self.found(products, place, goals)? else {
             return Ok(None);
         };
+        self.refresh(products, &mut region, &place.inside)?;
+        Ok(Some(region))
+    }
+
+    // Takes in all that is known of a region, where the walk to it opened some atoms.
+    fn refresh(
+        &mut self,
+        products: &Products,
+        region: &mut Region,
+        inside: &[u32],
+    ) -> Result<(), Memory>
+        requires cuts { HoldsCuts products.now self.old }
+        requires region { AreOverCut products.now region.old.cut }
+        ensures cuts { HoldsCuts products.now self.new }
+        ensures region { AreOverCut products.now region.new.cut }
+    {
         let members = fresh(
             &mut self.work,
             products,
             &self.atoms,
             &self.zeros.gone,
             &mut region.guide,
-            place,
+            inside,
         );
-        join_all(&mut self.work, products, &mut region, &members)?;
+        join_all(&mut self.work, products, region, &members)?;
         let relations = region.guide.fetch(&self.work);
         self.zeros
-            .learn_all(&mut self.work, &region.cut, &relations)?;
-        Ok(Some(region))
+            .learn_all(&mut self.work, &region.cut, &relations)
     }
 
     // The region of a cut as it was left, or a new one.
@@ -304,9 +369,9 @@ fn fresh(
     atoms: &Atoms,
     gone: &Gone,
     guide: &mut Guide,
-    place: &Place,
+    inside: &[u32],
 ) -> Vec<Member> {
-    let fresh = guide.fresh(work, Scene { products, atoms }, &place.inside);
+    let fresh = guide.fresh(work, Scene { products, atoms }, inside);
     let mut members = Vec::new(work.alloc);
     for atom in &fresh {
         if let Some(made) = atoms.made(*atom) {

@@ -5,7 +5,7 @@ ghost use Rattle.product_sums.specs.Products.{IsProduct, ProductsView};
 ghost use Rattle.sum_cuts.specs.Cuts.{AreOverCut, IsZero};
 ghost use Rattle.cut_sweeping.specs.inside.Regions.{AreRegions, TakesRegion};
 
-use cut_search::{Basis, Guide, Member, Place};
+use cut_search::{Basis, Guide, Member, Place, Vector};
 use linear_forms::Form;
 use plan_tools::Work;
 use product_sums::Products;
@@ -37,6 +37,49 @@ pub fn take_out(regions: &mut Vec<Region>, basis: &Basis) -> Option<Region>
         return None;
     }
     Some(regions.swap_remove(at))
+}
+
+/// A sum by its mark and its last atom.
+#[derive(Clone, Copy)]
+pub struct Sought {
+    pub mark: Vector,
+    pub last: u32,
+}
+
+/// Takes a region out over whose cut both sums may be read, the one with the most functions, where
+/// there is one.
+pub fn take_home(work: &mut Work, regions: &mut Vec<Region>, sums: [Sought; 2]) -> Option<Region>
+    ensures { (t : ProductsView) → AreRegions t regions.old.items
+        → TakesRegion t regions.new.items result }
+{
+    let at = home_of(work, regions, sums)?;
+    if at >= regions.len() {
+        return None;
+    }
+    Some(regions.swap_remove(at))
+}
+
+fn home_of(work: &mut Work, regions: &[Region], sums: [Sought; 2]) -> Option<usize> {
+    let mut home = None;
+    let mut most = 0;
+    work.spend((regions.len() / 8) as u64);
+    for at in 0..regions.len() {
+        let region = &regions[at];
+        if region.cut.functions.len() > most && may_read(work, &region.guide, sums) {
+            home = Some(at);
+            most = region.cut.functions.len();
+        }
+    }
+    home
+}
+
+fn may_read(work: &mut Work, guide: &Guide, sums: [Sought; 2]) -> bool {
+    for sum in sums {
+        if !guide.may_read(work, sum.last, &sum.mark) {
+            return false;
+        }
+    }
+    true
 }
 
 // The place of the region of a cut, those used last first.
