@@ -9,7 +9,8 @@ use revs_tape::{Entry, Kind, Ref, Tape};
 const MOST_SYMBOLS: u32 = 32_768;
 
 /// The task of a tape: each AND is a product. A bit on which nothing rests, and that has the values
-/// of another one in some columns, is taken to be equal to it. None where there is no such bit.
+/// of another one in some columns, is taken to be equal to it. None where no such bit tells more
+/// than its own sum.
 pub fn task_of_tape(work: &mut Work, tape: &Tape) -> Option<Task> {
     let twins = twins_of(work, tape);
     if twins.is_empty() {
@@ -28,7 +29,11 @@ pub fn task_of_tape(work: &mut Work, tape: &Tape) -> Option<Task> {
         write = write.saturating_add(1);
     }
     writing.set_outputs(work, tape);
-    let zeros = writing.zeros(work, tape, &twins);
+    let mut zeros = writing.zeros(work, &twins);
+    if zeros.dimension() == 0 {
+        return None;
+    }
+    writing.learn_claims(work, tape, &mut zeros);
     Some(writing.task.without(work, &zeros))
 }
 
@@ -134,8 +139,8 @@ impl Writing {
         }
     }
 
-    // What is 0 by the twins and the claims.
-    fn zeros(&self, work: &mut Work, tape: &Tape, twins: &[Twin]) -> Space {
+    // What is 0 by the twins.
+    fn zeros(&self, work: &mut Work, twins: &[Twin]) -> Space {
         let mut zeros = Space::new(work, self.task.words);
         for twin in twins {
             let unused = self.sum(work, twin.unused);
@@ -146,11 +151,15 @@ impl Writing {
             let apart = work.sum_of(&unused, &other);
             self.learn(work, &mut zeros, apart, twin.differs);
         }
+        zeros
+    }
+
+    // And what is 0 by the claims.
+    fn learn_claims(&self, work: &mut Work, tape: &Tape, zeros: &mut Space) {
         for claim in tape.claims() {
             let claimed = self.sum(work, claim.of);
-            self.learn(work, &mut zeros, claimed, claim.kind == Kind::Assert);
+            self.learn(work, zeros, claimed, claim.kind == Kind::Assert);
         }
-        zeros
     }
 
     // A sum has this value.
