@@ -67,4 +67,4 @@ def aes128(rounds: int = 10) -> Oracle:
 
 if __name__ == "__main__":
     print(f"PRESENT-80: {present80().compile_in_place().cost}")
-    print(f"a round of AES-128: {aes128(1).compile_in_place().cost}")
+    print(f"AES-128: {aes128().compile_in_place().cost}")

@@ -8,7 +8,7 @@ ghost use Rattle.claim_check.specs.Settled.{IsSettledOf};
 ghost use Rattle.in_place_circuits.specs.Found.{IsFound};
 
 use crate::circuits::circuit_of;
-use crate::searching::{search, search_tape};
+use crate::searching::search;
 use circuit_plans::{Budget, Laid, Narrow, Placing, Size};
 use circuit_verify::{Compared, VerifyFault, verify as by_diagrams};
 use claim_assumptions::premise;
@@ -56,7 +56,6 @@ pub fn find(
         return Ok(None);
     }
     let premised = premise(tape, assumed)?;
-    let limits = limits_of(budget);
     let wanted = Wanted {
         tape,
         graph,
@@ -65,13 +64,7 @@ pub fn find(
         budget,
         nodes,
     };
-    if let Some(flips) = search_tape(alloc, tape, limits)? {
-        let found = checked(alloc, wanted, &flips)?;
-        if found.is_some() {
-            return Ok(found);
-        }
-    }
-    let all = search(alloc, tape, limits)?;
+    let all = search(alloc, tape, limits_of(budget))?;
     best_of(alloc, wanted, &all)
 }
 

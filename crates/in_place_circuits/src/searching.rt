@@ -20,34 +20,47 @@ use sum_graph::SumGraph;
 /// The most bits of a sum that is no node of the graph.
 const SHORT_BITS: usize = 4;
 
-/// What may be gates of a circuit in place, by a search over the writes of a tape: none where its
-/// unused bits tell nothing. Nothing is promised of the gates.
-pub fn search_tape(
+/// A tape of at most so many writes is searched in each way; on longer ones the graphs take a minute.
+const MOST_SHORT: usize = 4_096;
+
+/// What may be gates of a circuit in place: by a search over the writes of a tape, where its unused
+/// bits tell something, and by searches over graphs, unless the first found gates of a long tape.
+/// Nothing is promised of the gates.
+pub fn search(alloc: Global, tape: &Tape, limits: Limits) -> Result<Vec<Vec<Flip>>, Memory>
+    requires some { 1 ≤ length tape.now.outputs }
+{
+    let mut found = Vec::new(alloc);
+    if let Some(flips) = found_in(plan_tape(alloc, tape, limits))? {
+        found.push(flips)?;
+    }
+    if found.is_empty() || tape.entries().len() <= MOST_SHORT {
+        search_graphs(alloc, tape, limits, &mut found)?;
+    }
+    Ok(found)
+}
+
+// Appends what searches find over the graph of the tape and over one with fewer products. Each fact
+// is a claim: its bit is the claimed one on the inputs that are looked at.
+fn search_graphs(
     alloc: Global,
     tape: &Tape,
     limits: Limits,
-) -> Result<Option<Vec<Flip>>, Memory> {
-    found_in(plan_tape(alloc, tape, limits))
-}
-
-/// The same by searches over the graph of the tape and over one with fewer products. Each fact is a
-/// claim: its bit is the claimed one on the inputs that are looked at.
-pub fn search(alloc: Global, tape: &Tape, limits: Limits) -> Result<Vec<Vec<Flip>>, Memory>
+    found: &mut Vec<Vec<Flip>>,
+) -> Result<(), Memory>
     requires some { 1 ≤ length tape.now.outputs }
 {
     let facts = claimed_bits(tape)?;
     let lean = graph_of(alloc, tape)?;
-    let mut found = Vec::new(alloc);
     let sought = Sought {
         outputs: tape.outputs().len(),
         facts: &facts,
         limits,
     };
-    sought.push_all(alloc, &lean, &mut found)?;
+    sought.push_all(alloc, &lean, found)?;
     if let Some(fewer) = few_products(alloc, &lean)? {
-        sought.push_all(alloc, &fewer, &mut found)?;
+        sought.push_all(alloc, &fewer, found)?;
     }
-    Ok(found)
+    Ok(())
 }
 
 // The bit that each claim claims.
