@@ -13,7 +13,7 @@ from typing import Iterator, List, NamedTuple, Optional, Tuple
 
 HERE = Path(__file__).resolve().parent
 DOCUMENTS = ["README.md", "docs/GUIDE.md", "docs/COMMANDS.md", "docs/PYTHON.md"]
-SIZE = re.compile(r"\d[\d,]* / \d[\d,]* / \d[\d,]*")
+SIZE = re.compile(r" / ".join([r"\d+(?:,\d+)*"] * 3))
 CALL = re.compile(r"^    \$ (.*)\n((?:    (?!\$ ).*\n|\n(?=    (?!\$ )))*)", re.MULTILINE)
 
 

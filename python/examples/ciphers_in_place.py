@@ -7,6 +7,7 @@ replaces. PRESENT is that of Bogdanov et al. (PRESENT: an ultra-lightweight bloc
 """
 import sys
 from pathlib import Path
+from typing import List, Tuple
 
 sys.dont_write_bytecode = True
 sys.path[:0] = [str(Path(__file__).resolve().parent.parent)]
@@ -65,6 +66,12 @@ def aes128(rounds: int = 10) -> Oracle:
     return aes
 
 
+CIPHERS: List[Tuple[str, Oracle]] = [
+    ("PRESENT-80, key and text to the last round key and the cipher text", present80()),
+    ("AES-128, the same", aes128()),
+]
+
+
 if __name__ == "__main__":
-    print(f"PRESENT-80: {present80().compile_in_place().cost}")
-    print(f"AES-128: {aes128().compile_in_place().cost}")
+    for title, cipher in CIPHERS:
+        print(f"{title}: {cipher.compile_in_place().cost}")
